@@ -1,0 +1,5 @@
+pub mod Samples
+pub mod Cases
+pub mod Halves
+pub mod Cuts
+pub mod Wrong

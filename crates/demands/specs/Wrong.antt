@@ -1,0 +1,115 @@
+-- For each public promise wrong outcomes that it rules out: what it promises at a sample, and what a wrong build would give there.
+use Prim.Native.Nat.{ℕ}
+use mathlib.Core.Bool.{Bool, true, false, _&&_, not}
+use mathlib.Core.List.{List, [], _∷_, _++_}
+use lib.Dec.{eqb}
+use lib.ListN.{length, drop, replicate}
+use Rattle.station.specs.declared.held.HeldSlot.{HeldSlot}
+use Rattle.station.specs.declared.held.HeldSlot.the-variants.{NoSlot}
+use Rattle.station.specs.declared.held.HeldToken.{HeldToken}
+use Rattle.station.specs.declared.held.HeldToken.the-variants.{NoToken}
+use Rattle.station.specs.declared.station.Station.{Station}
+use Rattle.station.specs.declared.message.Message.{Message}
+use Rattle.station.specs.declared.message.Shown.{Shown}
+use Rattle.station.specs.declared.outcome.Outcome.{Outcome}
+use Rattle.station.specs.Sound.{messageSound}
+use Rattle.station.specs.Steps.{blank, putStock, noMessage, freshOf, addOf, drawOf, showOf, receiveOf, messageFor}
+use Rattle.record.specs.declared.reading.Reading.{Reading}
+use Rattle.record.specs.Layout.{bytesOf}
+use Rattle.record.specs.Reading.{readOf}
+use Rattle.record.specs.Writing.{written, left, writeAnswer}
+use Rattle.record.specs.AtStation.{writeForAnswer, receiveBytesOf}
+use Rattle.demands.specs.Samples.{station1, from0, slot, token, slotNumbers, tokenNumbers, numbersOf}
+
+pub record Wrong : Type 0 where
+  pub promised : List ℕ
+  pub wrong : List ℕ
+
+abbrev sameNumbers : List ℕ → List ℕ → Bool
+sameNumbers [] [] = true
+sameNumbers [] (y ∷ ys) = false
+sameNumbers (x ∷ xs) [] = false
+sameNumbers (x ∷ xs) (y ∷ ys) = eqb x y && sameNumbers xs ys
+
+abbrev pub ruledOut : List Wrong → Bool
+ruledOut [] = true
+ruledOut (w ∷ ws) = not (sameNumbers (w .promised) (w .wrong)) && ruledOut ws
+
+abbrev flat : List (List ℕ) → List ℕ
+flat [] = []
+flat (x ∷ xs) = x ++ flat xs
+
+abbrev seatOf : Outcome → List ℕ
+seatOf r = r .answer ∷ r .result ∷ r .station .number ∷ r .station .count ∷ []
+
+abbrev stockOf : Outcome → List ℕ
+stockOf r = r .answer ∷ r .result ∷ r .station .value ∷ r .station .intake ∷ []
+
+abbrev messageOf : ℕ → Message → List ℕ
+messageOf n m =
+    n ∷ m .from ∷ m .to ∷ m .value ∷ m .source .0 ∷ m .destination .0 ∷ (slotNumbers (m .slot) ++ tokenNumbers (m .token))
+
+abbrev truth : Bool → List ℕ
+truth true = 1 ∷ []
+truth false = 0 ∷ []
+
+-- station 1 of 2 with value 3 and intake 3; with a token for station 0; with a slot for station 0
+abbrev stocked : Station
+stocked = putStock (blank 1 2) 3 3
+
+abbrev gave : Station
+gave = station1 3 1 0 NoSlot (token 0 0 5)
+
+abbrev asked : Station
+asked = station1 2 0 1 (slot 0 0 5) NoToken
+
+-- a message with a token for that slot, and what it does when it is delivered again
+abbrev pays : Message
+pays = from0 3 1 0 NoSlot (token 0 0 5)
+
+-- answer, result, then the buffer
+abbrev wrote : ℕ → List ℕ → List ℕ → List ℕ
+wrote answer bytes before = (written answer bytes .answer ∷ written answer bytes .result ∷ []) ++ left answer bytes before
+
+abbrev pub wrongs : List Wrong
+wrongs =
+    -- fresh: hands back station 0 whatever was asked; takes a count of 17
+    record { promised = seatOf (freshOf 1 2); wrong = 0 ∷ 0 ∷ 0 ∷ 2 ∷ [] }
+    ∷ record { promised = seatOf (freshOf 1 17); wrong = 0 ∷ 0 ∷ 1 ∷ 17 ∷ [] }
+    -- add: tells the amount and not the new value; leaves the intake
+    ∷ record { promised = stockOf (addOf stocked 4); wrong = 0 ∷ 4 ∷ 7 ∷ 7 ∷ [] }
+    ∷ record { promised = stockOf (addOf stocked 4); wrong = 0 ∷ 7 ∷ 7 ∷ 3 ∷ [] }
+    -- draw: tells an invented amount; refuses where less is there than asked
+    ∷ record { promised = stockOf (drawOf stocked 5); wrong = 0 ∷ 5 ∷ 0 ∷ 3 ∷ [] }
+    ∷ record { promised = stockOf (drawOf stocked 5); wrong = 4 ∷ 0 ∷ 3 ∷ 3 ∷ [] }
+    -- message_for: hides the token; has a message for itself
+    ∷ record { promised = messageOf (showOf gave 0 .answer) (showOf gave 0 .message); wrong = 0 ∷ 1 ∷ 0 ∷ 3 ∷ 1 ∷ 0 ∷ [] }
+    ∷ record { promised = messageOf (showOf gave 1 .answer) (showOf gave 1 .message); wrong = 0 ∷ 1 ∷ 1 ∷ 3 ∷ 1 ∷ 0 ∷ [] }
+    -- no_message: shows a value; is for another station than it is from
+    ∷ record { promised = messageOf 0 noMessage; wrong = 0 ∷ 0 ∷ 0 ∷ 1 ∷ 0 ∷ 0 ∷ [] }
+    ∷ record { promised = messageOf 0 noMessage; wrong = 0 ∷ 0 ∷ 1 ∷ 0 ∷ 0 ∷ 0 ∷ [] }
+    -- message_is_sound: refuses a token of 0; takes a slot of 0
+    ∷ record { promised = truth (messageSound (from0 3 1 0 NoSlot (token 0 0 0))); wrong = 0 ∷ [] }
+    ∷ record { promised = truth (messageSound (from0 3 0 1 (slot 0 0 0) NoToken)); wrong = 1 ∷ [] }
+    -- receive: refuses everything; fills a second time
+    ∷ record { promised = flat (numbersOf (receiveOf asked pays)); wrong = 11 ∷ 0 ∷ 0 ∷ 0 ∷ 2 ∷ 0 ∷ 1 ∷ 0 ∷ 0 ∷ 5 ∷ [] }
+    ∷ record { promised = flat (numbersOf (receiveOf (receiveOf asked pays .station) pays)); wrong = 0 ∷ 5 ∷ 1 ∷ 0 ∷ 0 ∷ 12 ∷ 0 ∷ 1 ∷ [] }
+    -- read: swaps the two clocks; tells no length
+    ∷ record { promised = let r = readOf (bytesOf pays) in r .result ∷ messageOf (r .answer) (r .message); wrong = 49 ∷ 0 ∷ 0 ∷ 1 ∷ 3 ∷ 0 ∷ 1 ∷ 0 ∷ 0 ∷ 5 ∷ [] }
+    ∷ record { promised = let r = readOf (bytesOf pays) in r .result ∷ messageOf (r .answer) (r .message); wrong = 0 ∷ 0 ∷ 0 ∷ 1 ∷ 3 ∷ 1 ∷ 0 ∷ 0 ∷ 0 ∷ 5 ∷ [] }
+    -- write: clears the byte past the record; writes into a buffer that is too short
+    ∷ record {
+      promised = wrote (writeAnswer pays 50) (bytesOf pays) (replicate 50 7);
+      wrong = (0 ∷ 49 ∷ []) ++ bytesOf pays ++ (0 ∷ []);
+    }
+    ∷ record { promised = wrote (writeAnswer pays 48) (bytesOf pays) (replicate 48 7); wrong = (14 ∷ 0 ∷ 1 ∷ []) ++ replicate 47 7 }
+    -- write_message: has a record for itself; tells no length
+    ∷ record { promised = wrote (writeForAnswer gave 1 50) (bytesOf (messageFor gave 1)) []; wrong = 0 ∷ 49 ∷ [] }
+    ∷ record {
+      promised = wrote (writeForAnswer gave 0 49) (bytesOf (messageFor gave 0)) (replicate 49 7);
+      wrong = (0 ∷ 0 ∷ []) ++ bytesOf (messageFor gave 0);
+    }
+    -- receive_bytes: takes a record with a byte behind it; asks for a record before it asks for a sound station
+    ∷ record { promised = flat (numbersOf (receiveBytesOf asked (bytesOf pays ++ (0 ∷ [])))); wrong = flat (numbersOf (receiveOf asked pays)) }
+    ∷ record { promised = stockOf (receiveBytesOf (blank 0 0) []); wrong = 9 ∷ 0 ∷ 0 ∷ 0 ∷ [] }
+    ∷ []

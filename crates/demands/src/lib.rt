@@ -1,0 +1,1 @@
+// No code: what the promises of the other crates come to, as theorems about their definitions.

@@ -1,0 +1,14 @@
+pub mod Stores
+pub mod Digits
+pub mod Bytes
+pub mod FieldEnds
+pub mod Lengths
+pub mod Lent
+pub mod Tests
+pub mod Found
+pub mod ReadBack
+pub mod Fields
+pub mod Exact
+pub mod Printed
+pub mod Showing
+pub mod Receiving

@@ -1,0 +1,50 @@
+use Prim.Native.Nat.{_+_}
+use mathlib.Core.List.{_++_}
+use native.Mathlib.Omega.{arith}
+use lib.ListN.{length-append}
+use borrow.Author.Needs.{needs}
+use Rattle.record.specs.Layout.{slotField, tokenField, front, bytesOf}
+use Rattle.record.proofs.Stores.{then}
+use Rattle.record.proofs.Digits.{length-big}
+use Rattle.record.proofs.Lengths.{length-record}
+use Rattle.record.proofs.writing.put_record.Statement.{statement}
+use Rattle.record.proofs.writing.put_record.Tie as tie
+
+put-front-requires : tie.Need-put-front-requires
+put-front-requires c κs = omega (arith, length-record (c .before .before .args .m))
+
+put-slot-requires : tie.Need-put-slot-requires
+put-slot-requires c κs = omega (arith, length-record (c .before .before .before .before .before .before .args .m))
+
+slot-size-requires : tie.Need-slot-size-requires
+slot-size-requires c κs = search needs
+
+add-put-token : tie.Need-add-put-token
+add-put-token c = search needs
+
+put-token-requires : tie.Need-put-token-requires
+put-token-requires c κs = omega (arith, length-record (c .before .before .before .before .before .before .before .before .before .before .before .args .m))
+
+same-length : tie.Need-same-length
+same-length c = search needs
+
+returns : tie.Need-returns
+unfolding bytesOf
+returns c =
+    let slot = c .before .before .before .before .before .before .before in
+    let a = slot .before .before .before .before .before .before .before .args in
+    let e = then (a .buffer .now) 0 30 (front (a .m)) (slotField (a .m .slot)) _ _ (slot .before .before .before .before .put-front .ensures) (slot .put-slot .ensures) (simp (length-append, length-big)) in
+    then (a .buffer .now) 0 (30 + c .before .before .before .slot-size .result) (front (a .m) ++ slotField (a .m .slot)) (tokenField (a .m .token)) _ _ e (c .before .before .put-token .ensures)
+    (simp (length-append, length-big) (omega arith))
+
+pub put-record-spec : {M : Type 1} → statement M
+put-record-spec =
+    tie.close
+    (tie.spec
+    put-front-requires
+    put-slot-requires
+    slot-size-requires
+    add-put-token
+    put-token-requires
+    same-length
+    returns)

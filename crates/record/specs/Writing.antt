@@ -1,0 +1,32 @@
+-- A message written into a lent buffer.
+use Prim.Native.Nat.{ℕ, zero, suc}
+use mathlib.Core.Path.{_≡_}
+use mathlib.Core.List.{List, _++_}
+use mathlib.Core.Bool.{not}
+use lib.Dec.{ltb}
+use lib.ListN.{length, drop}
+use Rattle.station.specs.declared.message.Message.{Message}
+use Rattle.station.specs.Answers.{done, noRecord, shortBuffer}
+use Rattle.station.specs.Sound.{messageSound}
+use Rattle.station.specs.Outcome.{first}
+use Rattle.record.specs.declared.writing.Written.{Written}
+use Rattle.record.specs.Layout.{bytesOf}
+
+-- the result is the record's length; a refusal's is 0
+abbrev pub written : ℕ → List ℕ → Written
+written zero bytes = record { answer = done; result = length bytes }
+written (suc n) bytes = record { answer = suc n; result = 0 }
+
+-- every byte past the record is as it was; a refusal leaves every byte
+abbrev pub left : ℕ → List ℕ → List ℕ → List ℕ
+left zero bytes before = bytes ++ drop (length bytes) before
+left (suc n) bytes before = before
+
+-- writing these bytes with this answer: what is told, and what the buffer then holds
+pub record Writes (answer : ℕ) (bytes before : List ℕ) (r : Written) (after : List ℕ) : Type 0 where
+  pub told : r ≡ written answer bytes
+  pub buffer : after ≡ left answer bytes before
+
+-- a given message: 9 where it is not sound, 14 where the buffer is shorter than its record
+abbrev pub writeAnswer : Message → ℕ → ℕ
+writeAnswer m room = first (not (messageSound m)) noRecord (first (ltb room (length (bytesOf m))) shortBuffer done)

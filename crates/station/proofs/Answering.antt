@@ -1,0 +1,106 @@
+-- Answers looked for in order, and what follows where the answer is 0. Assumes nothing.
+use Prim.Native.Nat.{ℕ, zero, suc, _+_, _<_, _≤_}
+use mathlib.Core.Path.{_≡_, refl}
+use mathlib.Core.Bool.{Bool, true, false, not, _&&_}
+use native.Mathlib.Omega.{arith}
+use lib.Dec.{ltb, leb, eqb}
+use borrow.Author.Tests.{ltb-true, ltb-false, leb-true, not-false, eqb-true, eqb-false}
+use Rattle.station.specs.declared.station.Station.{Station}
+use Rattle.station.specs.declared.message.Message.{Message}
+use Rattle.station.specs.declared.message.Shown.{Shown}
+use Rattle.station.specs.declared.outcome.Outcome.{Outcome}
+use Rattle.station.specs.Limits.{mostAmount, mostIntake, mostValue}
+use Rattle.station.specs.Side.{sideFor}
+use Rattle.station.specs.Sound.{stationSound, messageSound}
+use Rattle.station.specs.Rules.{fill}
+use Rattle.station.specs.Taking.{Takes}
+use Rattle.station.specs.Outcome.{refused, first, answered}
+use Rattle.station.specs.Steps.{noMessage, showing, amountSound, addAnswer, drawAnswer, showAnswer, endsBelow, receiveAnswer}
+use Rattle.station.proofs.Below.{both-hold}
+use Rattle.station.proofs.Parts.{SoundStation, station-parts, SoundMessage, message-parts, token-fits}
+
+pub when-done : {n : ℕ} (s : Station) (d : Outcome) → n ≡ 0 → d ≡ answered n s d
+when-done s d e = rw e
+
+pub when-refused : (n : ℕ) (s : Station) (d : Outcome) → (n ≡ 0 → ⊥) → refused n s ≡ answered n s d
+when-refused zero s d f = absurd (f refl)
+when-refused (suc n) s d f = refl
+
+pub shown-done : {n : ℕ} (m : Message) → n ≡ 0 → record { answer = 0; message = m } ≡ showing n m
+shown-done m e = rw e
+
+pub shown-refused : (n : ℕ) (m : Message) → (n ≡ 0 → ⊥) → record { answer = n; message = noMessage } ≡ showing n m
+shown-refused zero m f = absurd (f refl)
+shown-refused (suc n) m f = refl
+
+-- an answer of 0 has passed its first test
+pub passed : (t : Bool) (n : ℕ) {later : ℕ} → first t (suc n) later ≡ 0 → (t ≡ false) × (later ≡ 0)
+passed false n e = (refl, e)
+passed true n e = absurd (omega arith)
+
+pub amount-small : (amount : ℕ) → amountSound amount ≡ true → amount ≤ mostAmount
+amount-small amount e = leb-true _ _ (both-hold (leb 1 amount) _ e .1)
+
+-- what an add that is done has room for
+pub record Added (s : Station) (amount : ℕ) : Type 0 where
+  pub sound : stationSound s ≡ true
+  pub intake : s .intake + amount ≤ mostIntake
+  pub value : s .value + amount ≤ mostValue
+
+pub added : (s : Station) (amount : ℕ) → addAnswer s amount ≡ 0 → Added s amount
+added s amount e =
+    let one = passed (not (stationSound s)) 0 e in
+    let two = passed (not (amountSound amount)) 3 (one .1) in
+    let three = passed (ltb mostIntake (s .intake + amount)) 4 (two .1) in
+    let four = passed (ltb mostValue (s .value + amount)) 9 (three .1) in
+    record { sound = not-false _ (one .0); intake = ltb-false _ _ (three .0); value = ltb-false _ _ (four .0) }
+
+pub drawn : (s : Station) (amount : ℕ) → drawAnswer s amount ≡ 0 → stationSound s ≡ true
+drawn s amount e = not-false _ (passed (not (stationSound s)) 0 e .0)
+
+-- a message that is shown is for another station of the table
+pub record Peer (s : Station) (k : ℕ) : Type 0 where
+  pub sound : stationSound s ≡ true
+  pub below : k < s .count
+  pub other : k ≡ s .number → ⊥
+
+pub shown : (s : Station) (to : ℕ) → showAnswer s to ≡ 0 → Peer s to
+shown s to e =
+    let one = passed (not (stationSound s)) 0 e in
+    let two = passed (not (ltb to (s .count))) 1 (one .1) in
+    let three = passed (eqb to (s .number)) 2 (two .1) in
+    record { sound = not-false _ (one .0); below = ltb-true _ _ (not-false _ (two .0)); other = eqb-false _ _ (three .0) }
+
+-- what a message that is received has passed
+pub record Received (s : Station) (m : Message) : Type 0 where
+  pub sound : stationSound s ≡ true
+  pub message : messageSound m ≡ true
+  pub from : m .from < s .count
+  pub to : m .to ≡ s .number
+  pub room : fill (sideFor s (m .from)) m .side .value ≤ mostValue
+
+pub received : (s : Station) (m : Message) → receiveAnswer s m ≡ 0 → Received s m
+received s m e =
+    let one = passed (not (stationSound s)) 0 e in
+    let two = passed (not (messageSound m)) 8 (one .1) in
+    let three = passed (not (endsBelow s m)) 1 (two .1) in
+    let four = passed (not (eqb (m .to) (s .number))) 10 (three .1) in
+    let five = passed (ltb mostValue (fill (sideFor s (m .from)) m .side .value)) 9 (four .1) in
+    record {
+      sound = not-false _ (one .0);
+      message = not-false _ (two .0);
+      from = ltb-true _ _ (both-hold (ltb (m .from) (s .count)) _ (not-false _ (three .0)) .0);
+      to = eqb-true _ _ (not-false _ (four .0));
+      room = ltb-false _ _ (five .0);
+    }
+
+-- the rules may take it
+pub takes : (s : Station) (m : Message) → Received s m → Takes (sideFor s (m .from)) m
+takes s m r =
+    let shows = message-parts m (r .message) in
+    record {
+      value = station-parts s (r .sound) .value;
+      shown = shows .value;
+      token = token-fits (m .token) (m .source) (shows .token);
+      room = r .room;
+    }

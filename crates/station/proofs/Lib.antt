@@ -1,0 +1,9 @@
+pub mod Below
+pub mod Signed
+pub mod Ruling
+pub mod Parts
+pub mod Answering
+pub mod InOrder
+pub mod KeepsSide
+pub mod KeepsCells
+pub mod Keeps

@@ -1,0 +1,23 @@
+-- What an entry point tells.
+use Prim.Native.Nat.{ℕ, zero, suc}
+use mathlib.Core.Bool.{Bool, false, cond}
+use Rattle.station.specs.declared.station.Station.{Station}
+use Rattle.station.specs.declared.outcome.Report.{Report}
+use Rattle.station.specs.declared.outcome.Outcome.{Outcome}
+
+-- no rule is named, the quantities are 0
+abbrev pub noReport : Report
+noReport = record { rule1 = false; rule2 = false; rule3 = false; rule4 = false; rule5 = false; opened = 0; made = 0 }
+
+-- every refusal has result 0 and changes nothing lent
+abbrev pub refused : ℕ → Station → Outcome
+refused n s = record { answer = n; result = 0; report = noReport; station = s }
+
+-- the answer is n where the test holds, and else what the later tests give
+abbrev pub first : Bool → ℕ → ℕ → ℕ
+first t n later = cond t n later
+
+-- answer 0 is the step done; any other is a refusal
+abbrev pub answered : ℕ → Station → Outcome → Outcome
+answered zero s done = done
+answered (suc n) s done = refused (suc n) s

@@ -1,0 +1,18 @@
+// A station by value.
+use crate::clocks::DestinationClock;
+use crate::clocks::SourceClock;
+use crate::held::SlotCell;
+use crate::held::TokenCell;
+
+// Its own number and the count of stations, its value, its intake, its two clocks, and for every peer at most one slot
+// and at most one token.
+pub struct Station {
+    pub number: usize,
+    pub count: usize,
+    pub value: u64,
+    pub intake: u64,
+    pub source: SourceClock,
+    pub destination: DestinationClock,
+    pub slots: [SlotCell; 16],
+    pub tokens: [TokenCell; 16],
+}

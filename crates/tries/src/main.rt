@@ -1,0 +1,182 @@
+// Input at the edges, through the compiled entry points. Each line is the words, the answer and the result.
+use libc::STDOUT_FILENO;
+use station::clocks::DestinationClock;
+use station::clocks::SourceClock;
+use station::held::HeldSlot;
+use station::held::HeldToken;
+use station::held::Slot;
+use station::held::Token;
+use station::message::Message;
+use station::station::Station;
+
+const LARGEST: u64 = 18446744073709551615;
+
+fn tell(words: &[u8], answer: u8, result: u64) {
+    io::write_all(STDOUT_FILENO, words);
+    io::write_all(STDOUT_FILENO, b" ");
+    io::print_decimal(STDOUT_FILENO, answer as u64);
+    io::write_all(STDOUT_FILENO, b" ");
+    io::print_decimal(STDOUT_FILENO, result);
+    io::write_all(STDOUT_FILENO, b"\n");
+}
+
+fn try_fresh(words: &[u8], number: u64, count: u64) {
+    let r = station::fresh(number, count);
+    tell(words, r.answer, r.result);
+}
+
+fn try_add(words: &[u8], s: Station, amount: u64) {
+    let r = station::add(s, amount);
+    tell(words, r.answer, r.result);
+}
+
+fn try_draw(words: &[u8], s: Station, amount: u64) {
+    let r = station::draw(s, amount);
+    tell(words, r.answer, r.result);
+}
+
+// A message with a slot and a token: 68 bytes.
+fn full_message() -> Message {
+    Message {
+        from: 0,
+        to: 1,
+        value: 3,
+        source: SourceClock(1),
+        destination: DestinationClock(4294967295),
+        slot: HeldSlot::OneSlot(Slot {
+            source: SourceClock(0),
+            destination: DestinationClock(4294967294),
+            quantity: 16000000000,
+        }),
+        token: HeldToken::OneToken(Token {
+            source: SourceClock(0),
+            destination: DestinationClock(0),
+            quantity: 5,
+        }),
+    }
+}
+
+// Writes into the first room bytes of a buffer.
+fn write_part(words: &[u8], m: Message, buffer: &mut [u8], room: usize) {
+    if room <= buffer.len() {
+        let w = record::write(m, &mut buffer[..room]);
+        tell(words, w.answer, w.result);
+    }
+}
+
+fn message_part(words: &[u8], s: Station, to: u64, buffer: &mut [u8], room: usize) {
+    if room <= buffer.len() {
+        let w = record::write_message(s, to, &mut buffer[..room]);
+        tell(words, w.answer, w.result);
+    }
+}
+
+// Reads, and receives, the first size bytes.
+fn read_part(words: &[u8], bytes: &[u8], size: usize) {
+    if size <= bytes.len() {
+        let r = record::read(&bytes[..size]);
+        tell(words, r.answer, r.result);
+    }
+}
+
+fn receive_part(words: &[u8], s: Station, bytes: &[u8], size: usize) {
+    if size <= bytes.len() {
+        let r = record::receive_bytes(s, &bytes[..size]);
+        tell(words, r.answer, r.result);
+    }
+}
+
+fn try_message(words: &[u8], s: Station, to: u64, room: usize) {
+    let mut buffer = [7u8; 80];
+    message_part(words, s, to, &mut buffer, room);
+}
+
+// Writes the message into the first room bytes, and reads the first size bytes back.
+fn try_record(words: &[u8], m: Message, room: usize, size: usize) {
+    let mut buffer = [7u8; 80];
+    write_part(words, m, &mut buffer, room);
+    read_part(b"  read", &buffer, size);
+}
+
+// The full record with another sender, received.
+fn try_sender(words: &[u8], s: Station, from: u8, size: usize) {
+    let mut buffer = [7u8; 80];
+    record::write(full_message(), &mut buffer);
+    buffer[3] = from;
+    receive_part(words, s, &buffer, size);
+}
+
+fn stations() {
+    try_fresh(b"fresh 0 of 0", 0, 0);
+    try_fresh(b"fresh 0 of 1", 0, 1);
+    try_fresh(b"fresh 0 of 2", 0, 2);
+    try_fresh(b"fresh 15 of 16", 15, 16);
+    try_fresh(b"fresh 16 of 16", 16, 16);
+    try_fresh(b"fresh 0 of 17", 0, 17);
+    try_fresh(b"fresh largest of largest", LARGEST, LARGEST);
+    let r = station::fresh(1, 2);
+    let s = r.station;
+    try_add(b"add 0", s, 0);
+    try_add(b"add 1", s, 1);
+    try_add(b"add 1000000000", s, 1000000000);
+    try_add(b"add 1000000001", s, 1000000001);
+    try_add(b"add largest", s, LARGEST);
+    let full = station::add(s, 1000000000);
+    let rich = full.station;
+    try_add(b"add past the intake", rich, 1);
+    try_draw(b"draw 0", rich, 0);
+    try_draw(b"draw 1000000000", rich, 1000000000);
+    try_draw(b"draw from nothing", s, 1);
+    try_draw(b"draw largest", rich, LARGEST);
+    let none = station::fresh(0, 0);
+    let unsound = none.station;
+    try_add(b"add at no station", unsound, 1);
+    try_draw(b"draw at no station", unsound, 1);
+    try_message(b"message of no station", unsound, 1, 80);
+    try_message(b"message for 0", s, 0, 80);
+    try_message(b"message for itself", s, 1, 80);
+    try_message(b"message for 2 of 2", s, 2, 80);
+    try_message(b"message for largest", s, LARGEST, 80);
+    try_message(b"message into 30 bytes", s, 0, 30);
+    try_message(b"message into 29 bytes", s, 0, 29);
+    try_message(b"message into no bytes", s, 0, 0);
+}
+
+fn records() {
+    let m = full_message();
+    try_record(b"write into 68", m, 68, 68);
+    try_record(b"write into 67", m, 67, 68);
+    try_record(b"write, one byte more", m, 80, 69);
+    try_record(b"write, cut inside field 6", m, 80, 67);
+    try_record(b"write, cut after field 5", m, 80, 49);
+    try_record(b"write, cut inside field 5", m, 80, 48);
+    try_record(b"write, cut after field 4", m, 80, 30);
+    try_record(b"write, cut inside field 4", m, 80, 29);
+    try_record(b"write, no bytes", m, 80, 0);
+    try_record(
+        b"write what is not sound",
+        station::message::no_message(),
+        80,
+        30,
+    );
+}
+
+fn received() {
+    let r = station::fresh(1, 2);
+    let s = r.station;
+    let other = station::fresh(0, 2);
+    let none = station::fresh(0, 0);
+    try_sender(b"receive 68 bytes", s, 0, 68);
+    try_sender(b"receive 67 bytes", s, 0, 67);
+    try_sender(b"receive no bytes", s, 0, 0);
+    try_sender(b"receive for another", other.station, 0, 49);
+    try_sender(b"receive from 2 of 2", s, 2, 68);
+    try_sender(b"receive from itself", s, 1, 68);
+    try_sender(b"receive at no station", none.station, 0, 67);
+}
+
+fn main() {
+    stations();
+    records();
+    received();
+}
