@@ -8,8 +8,25 @@ use Rattle.station.specs.declared.station.Station.{Station}
 use Rattle.station.specs.declared.message.Message.{Message}
 use Rattle.station.specs.declared.message.Shown.{Shown}
 use Rattle.station.specs.declared.outcome.Outcome.{Outcome}
-use Rattle.station.specs.Sound.{messageSound}
-use Rattle.station.specs.Steps.{noMessage, freshOf, addOf, drawOf, showOf, receiveOf, messageFor}
+use Rattle.station.specs.declared.held.Slot.{Slot}
+use Rattle.station.specs.declared.held.Token.{Token}
+use Rattle.station.specs.declared.outcome.Report.{Report}
+use Rattle.station.specs.Outcome.{noReport}
+use Rattle.station.specs.Rules.{agree}
+use Rattle.station.specs.Sound.{countSound, stationSound, messageSound}
+use Rattle.station.specs.Steps.{blank, noMessage, freshOf, addOf, drawOf, showOf, receiveOf, messageFor}
+use Rattle.table.specs.declared.table.Table.{Table}
+use Rattle.table.specs.declared.planning.Step.{Step}
+use Rattle.table.specs.declared.planning.Plan.{Plan}
+use Rattle.table.specs.declared.stepping.Stepped.{Stepped}
+use Rattle.table.specs.declared.way.Summed.{Summed}
+use Rattle.table.specs.declared.pool.Place.{Place}
+use Rattle.table.specs.declared.lent.Told.{Told}
+use Rattle.table.specs.declared.lent.Pooled.{Pooled}
+use Rattle.table.specs.Lent.{sendInTold, sendInPool, loseInTold, loseInPool}
+use Rattle.table.specs.Fresh.{freshOf as freshTableOf}
+use Rattle.table.specs.Steps.{planOf, stepOf}
+use Rattle.table.specs.Way.{onTheWay, atStations, asked}
 use Rattle.record.specs.declared.reading.Reading.{Reading}
 use Rattle.record.specs.declared.writing.Written.{Written}
 use Rattle.record.specs.Layout.{bytesOf}
@@ -61,3 +78,53 @@ module _ (s : Station) (m : Message) (n k : ℕ) (bytes before : List ℕ) where
   pub write-message-settled : {x y : Written} {after later : List ℕ} → Writes (writeForAnswer s n (length before)) (bytesOf (messageFor s n)) before x after
       → Writes (writeForAnswer s n (length before)) (bytesOf (messageFor s n)) before y later → (x ≡ y) × (after ≡ later)
   write-message-settled p q = two p q
+
+  pub station-is-sound-settled : {x y : Bool} → x ≡ stationSound s → y ≡ stationSound s → x ≡ y
+  station-is-sound-settled p q = one p q
+
+  pub count-is-sound-settled : {x y : Bool} → x ≡ countSound n → y ≡ countSound n → x ≡ y
+  count-is-sound-settled p q = one p q
+
+  pub blank-station-settled : {x y : Station} → x ≡ blank n k → y ≡ blank n k → x ≡ y
+  blank-station-settled p q = one p q
+
+  pub no-report-settled : {x y : Report} → x ≡ noReport → y ≡ noReport → x ≡ y
+  no-report-settled p q = one p q
+
+  pub clocks-agree-settled : (t : Token) (l : Slot) {x y : Bool} → x ≡ agree t l → y ≡ agree t l → x ≡ y
+  clocks-agree-settled t l p q = one p q
+
+-- the table
+module _ (t : Table) (step : Step) (n : ℕ) where
+  pub fresh-table-settled : {x y : Stepped} → x ≡ freshTableOf n → y ≡ freshTableOf n → x ≡ y
+  fresh-table-settled p q = one p q
+
+  pub plan-settled : {x y : Plan} → x ≡ planOf t step → y ≡ planOf t step → x ≡ y
+  plan-settled p q = one p q
+
+  pub step-settled : {x y : Stepped} → x ≡ stepOf t step → y ≡ stepOf t step → x ≡ y
+  step-settled p q = one p q
+
+  pub on-the-way-settled : {x y : Summed} → x ≡ asked t (onTheWay t) → y ≡ asked t (onTheWay t) → x ≡ y
+  on-the-way-settled p q = one p q
+
+  pub at-stations-settled : {x y : Summed} → x ≡ asked t (atStations t) → y ≡ asked t (atStations t) → x ≡ y
+  at-stations-settled p q = one p q
+
+-- the lent pool
+module _ (pool : List Place) (m : Message) (n : ℕ) where
+  pub send-in-settled : {x y : Told} {after later : List Place} → (x ≡ sendInTold pool) × (after ≡ sendInPool pool m)
+      → (y ≡ sendInTold pool) × (later ≡ sendInPool pool m) → (x ≡ y) × (after ≡ later)
+  send-in-settled p q = (one (p .0) (q .0), one (p .1) (q .1))
+
+  pub lose-in-settled : {x y : Told} {after later : List Place} → (x ≡ loseInTold pool n) × (after ≡ loseInPool pool n)
+      → (y ≡ loseInTold pool n) × (later ≡ loseInPool pool n) → (x ≡ y) × (after ≡ later)
+  lose-in-settled p q = (one (p .0) (q .0), one (p .1) (q .1))
+
+  pub send-value-settled : {x y : Pooled} → x ≡ record { told = sendInTold pool; pool = sendInPool pool m }
+      → y ≡ record { told = sendInTold pool; pool = sendInPool pool m } → x ≡ y
+  send-value-settled p q = one p q
+
+  pub lose-value-settled : {x y : Pooled} → x ≡ record { told = loseInTold pool n; pool = loseInPool pool n }
+      → y ≡ record { told = loseInTold pool n; pool = loseInPool pool n } → x ≡ y
+  lose-value-settled p q = one p q

@@ -3,3 +3,4 @@ pub mod Cases
 pub mod Halves
 pub mod Cuts
 pub mod Wrong
+pub mod WrongTables

@@ -5,21 +5,24 @@ use mathlib.Core.List.{List, [], _∷_, _++_}
 use lib.Dec.{eqb}
 use lib.ListN.{length, drop, replicate}
 use Rattle.station.specs.declared.held.HeldSlot.{HeldSlot}
-use Rattle.station.specs.declared.held.HeldSlot.the-variants.{NoSlot}
+use Rattle.station.specs.declared.held.HeldSlot.the-variants.{NoSlot, OneSlot}
 use Rattle.station.specs.declared.held.HeldToken.{HeldToken}
-use Rattle.station.specs.declared.held.HeldToken.the-variants.{NoToken}
+use Rattle.station.specs.declared.held.HeldToken.the-variants.{NoToken, OneToken}
 use Rattle.station.specs.declared.station.Station.{Station}
 use Rattle.station.specs.declared.message.Message.{Message}
 use Rattle.station.specs.declared.message.Shown.{Shown}
 use Rattle.station.specs.declared.outcome.Outcome.{Outcome}
-use Rattle.station.specs.Sound.{messageSound}
+use Rattle.station.specs.Outcome.{noReport}
+use Rattle.station.specs.Rules.{agree}
+use Rattle.station.specs.Side.{putSide}
+use Rattle.station.specs.Sound.{countSound, stationSound, messageSound}
 use Rattle.station.specs.Steps.{blank, putStock, noMessage, freshOf, addOf, drawOf, showOf, receiveOf, messageFor}
 use Rattle.record.specs.declared.reading.Reading.{Reading}
 use Rattle.record.specs.Layout.{bytesOf}
 use Rattle.record.specs.Reading.{readOf}
 use Rattle.record.specs.Writing.{written, left, writeAnswer}
 use Rattle.record.specs.AtStation.{writeForAnswer, receiveBytesOf}
-use Rattle.demands.specs.Samples.{station1, from0, slot, token, slotNumbers, tokenNumbers, numbersOf}
+use Rattle.demands.specs.Samples.{station1, from0, slot, token, rulesOf, slotNumbers, tokenNumbers, numbersOf}
 
 pub record Wrong : Type 0 where
   pub promised : List ℕ
@@ -71,6 +74,11 @@ pays = from0 3 1 0 NoSlot (token 0 0 5)
 abbrev wrote : ℕ → List ℕ → List ℕ → List ℕ
 wrote answer bytes before = (written answer bytes .answer ∷ written answer bytes .result ∷ []) ++ left answer bytes before
 
+abbrev meet : HeldToken → HeldSlot → Bool
+meet (OneToken t) (OneSlot l) = agree t l
+meet (OneToken t) NoSlot = false
+meet NoToken h = false
+
 abbrev pub wrongs : List Wrong
 wrongs =
     -- fresh: hands back station 0 whatever was asked; takes a count of 17
@@ -112,4 +120,19 @@ wrongs =
     -- receive_bytes: takes a record with a byte behind it; asks for a record before it asks for a sound station
     ∷ record { promised = flat (numbersOf (receiveBytesOf asked (bytesOf pays ++ (0 ∷ [])))); wrong = flat (numbersOf (receiveOf asked pays)) }
     ∷ record { promised = stockOf (receiveBytesOf (blank 0 0) []); wrong = 9 ∷ 0 ∷ 0 ∷ 0 ∷ [] }
+    -- station_is_sound: takes a station with a token for itself; refuses a value of 16,000,000,000
+    ∷ record { promised = truth (stationSound (putSide (blank 1 2) 1 (record { value = 0; source = record { 0 = 1 }; destination = record { 0 = 0 }; slot = NoSlot; token = token 0 0 5 }))); wrong = 1 ∷ [] }
+    ∷ record { promised = truth (stationSound (putStock (blank 1 2) 16000000000 0)); wrong = 0 ∷ [] }
+    -- count_is_sound: takes 1; refuses 16
+    ∷ record { promised = truth (countSound 1); wrong = 1 ∷ [] }
+    ∷ record { promised = truth (countSound 16); wrong = 0 ∷ [] }
+    -- blank_station: swaps number and count; holds a pass
+    ∷ record { promised = let s = blank 1 2 in s .number ∷ s .count ∷ s .value ∷ []; wrong = 2 ∷ 1 ∷ 0 ∷ [] }
+    ∷ record { promised = let s = blank 1 2 in s .number ∷ s .count ∷ s .value ∷ []; wrong = 1 ∷ 2 ∷ 1 ∷ [] }
+    -- no_report: names a rule; tells a quantity
+    ∷ record { promised = rulesOf noReport ++ (noReport .opened ∷ noReport .made ∷ []); wrong = 5 ∷ 0 ∷ 0 ∷ [] }
+    ∷ record { promised = rulesOf noReport ++ (noReport .opened ∷ noReport .made ∷ []); wrong = 0 ∷ 5 ∷ [] }
+    -- clocks_agree: looks at one clock only, the source clock or the destination clock
+    ∷ record { promised = truth (meet (token 0 0 5) (slot 0 1 5)); wrong = 1 ∷ [] }
+    ∷ record { promised = truth (meet (token 0 0 5) (slot 1 0 5)); wrong = 1 ∷ [] }
     ∷ []

@@ -5,10 +5,11 @@ use mathlib.Core.List.{List}
 use Rattle.station.specs.declared.station.Station.{Station}
 use Rattle.station.specs.declared.message.Message.{Message}
 use Rattle.station.specs.declared.message.Shown.{Shown}
+use Rattle.station.specs.Outcome.{orElse}
 use Rattle.station.specs.Steps.{showAnswer, showing, showOf, messageFor}
 use Rattle.station.proofs.Keeps.{message-sound}
 use Rattle.record.specs.Writing.{Writes, writeAnswer}
-use Rattle.record.specs.AtStation.{orElse, writeForAnswer}
+use Rattle.record.specs.AtStation.{writeForAnswer}
 
 answer-shown : (n : ℕ) (m : Message) → showing n m .answer ≡ n
 answer-shown zero m = refl

@@ -1,20 +1,15 @@
 -- One station on bytes.
-use Prim.Native.Nat.{ℕ, zero, suc}
+use Prim.Native.Nat.{ℕ}
 use mathlib.Core.List.{List}
 use lib.Dec.{ltb}
 use lib.ListN.{length}
 use Rattle.station.specs.declared.station.Station.{Station}
 use Rattle.station.specs.declared.outcome.Outcome.{Outcome}
 use Rattle.station.specs.Answers.{done, shortBuffer}
-use Rattle.station.specs.Outcome.{first}
+use Rattle.station.specs.Outcome.{first, orElse}
 use Rattle.station.specs.Steps.{showAnswer, messageFor, receiveOf}
 use Rattle.record.specs.Layout.{bytesOf}
 use Rattle.record.specs.Reading.{readOf}
-
--- an answer, or where it is 0 the one that is looked for next
-abbrev pub orElse : ℕ → ℕ → ℕ
-orElse zero later = later
-orElse (suc n) later = suc n
 
 -- what is written is the message that the station shows (1, 2, 3); 14 where the buffer is shorter than its record
 abbrev pub writeForAnswer : Station → ℕ → ℕ → ℕ

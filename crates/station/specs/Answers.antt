@@ -24,6 +24,18 @@ badAmount = 4
 abbrev pub intakeLimit : ℕ
 intakeLimit = 5
 
+-- all 64 places are taken
+abbrev pub poolFull : ℕ
+poolFull = 6
+
+-- a place number is above 63
+abbrev pub noSuchPlace : ℕ
+noSuchPlace = 7
+
+-- a place is empty
+abbrev pub emptyPlace : ℕ
+emptyPlace = 8
+
 -- bytes are no record, or a message is not sound
 abbrev pub noRecord : ℕ
 noRecord = 9
@@ -35,6 +47,14 @@ valueLimit = 10
 -- what is received is for another station
 abbrev pub forAnother : ℕ
 forAnother = 11
+
+-- a script line can't be read
+abbrev pub badLine : ℕ
+badLine = 12
+
+-- the script is longer than 65,536 bytes
+abbrev pub longScript : ℕ
+longScript = 13
 
 -- the output buffer is shorter than the record
 abbrev pub shortBuffer : ℕ

@@ -17,6 +17,11 @@ refused n s = record { answer = n; result = 0; report = noReport; station = s }
 abbrev pub first : Bool → ℕ → ℕ → ℕ
 first t n later = cond t n later
 
+-- an answer, or where it is 0 the one that is looked for next
+abbrev pub orElse : ℕ → ℕ → ℕ
+orElse zero later = later
+orElse (suc n) later = suc n
+
 -- answer 0 is the step done; any other is a refusal
 abbrev pub answered : ℕ → Station → Outcome → Outcome
 answered zero s done = done

@@ -22,7 +22,7 @@ pub struct Outcome {
 }
 
 // No rule acted.
-pub(crate) fn no_report() -> Report
+pub fn no_report() -> Report
     ensures { λ r. ⌜ r ≡ noReport ⌝ }
 {
     Report {

@@ -40,7 +40,7 @@ fn rests_at(x: Side) -> Ruled
 }
 
 // Both clocks, each with its own kind.
-fn clocks_agree(t: Token, l: Slot) -> bool
+pub fn clocks_agree(t: Token, l: Slot) -> bool
     ensures { λ r. ⌜ r ≡ agree t l ⌝ }
 {
     let made = t.source;

@@ -73,13 +73,13 @@ fn cells_are_sound(s: Station) -> bool
     sound
 }
 
-pub(crate) fn count_is_sound(count: u64) -> bool
+pub fn count_is_sound(count: u64) -> bool
     ensures { λ r. ⌜ r ≡ countSound count ⌝ }
 {
     (2 <= count) & (count <= 16)
 }
 
-pub(crate) fn station_is_sound(s: Station) -> bool
+pub fn station_is_sound(s: Station) -> bool
     ensures { λ r. ⌜ r ≡ stationSound s ⌝ }
 {
     let source = s.source;

@@ -21,7 +21,7 @@ use crate::station::Station;
 
 const MOST_AMOUNT: u64 = 1000000000;
 
-fn blank_station(number: usize, count: usize) -> Station
+pub fn blank_station(number: usize, count: usize) -> Station
     ensures { λ r. ⌜ r ≡ blank number count ⌝ }
 {
     let slot = SlotCell {

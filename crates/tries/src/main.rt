@@ -8,6 +8,10 @@ use station::held::Slot;
 use station::held::Token;
 use station::message::Message;
 use station::station::Station;
+use table::planning::Step;
+use table::pool::Place;
+use table::pool::Waiting;
+use table::table::Table;
 
 const LARGEST: u64 = 18446744073709551615;
 
@@ -175,8 +179,98 @@ fn received() {
     try_sender(b"receive at no station", none.station, 0, 67);
 }
 
+// One step, told; the table after it.
+fn go(words: &[u8], t: Table, s: Step) -> Table {
+    let r = table::step(t, s);
+    tell(words, r.answer, r.result);
+    r.table
+}
+
+// The script that the rules work out by hand.
+fn worked() {
+    let made = table::fresh_table(2);
+    let a = go(b"add 0 10", made.table, Step::Add(0, 10));
+    let b = go(b"send 0 1", a, Step::Send(0, 1));
+    let c = go(b"deliver 0", b, Step::Deliver(0));
+    let d = go(b"send 1 0", c, Step::Send(1, 0));
+    let e = go(b"deliver 1", d, Step::Deliver(1));
+    let f = go(b"draw 0 7", e, Step::Draw(0, 7));
+    let g = go(b"send 0 1", f, Step::Send(0, 1));
+    let h = go(b"deliver 2", g, Step::Deliver(2));
+    let i = go(b"deliver 2", h, Step::Deliver(2));
+    let k = go(b"lose 2", i, Step::Lose(2));
+    let l = go(b"send 0 0", k, Step::Send(0, 0));
+    let way = table::on_the_way(l);
+    tell(b"on the way", way.answer, way.result);
+    let values = table::at_stations(l);
+    tell(b"at stations", values.answer, values.result);
+}
+
+fn edges() {
+    let none = table::fresh_table(1);
+    tell(b"table of 1", none.answer, none.result);
+    let many = table::fresh_table(17);
+    tell(b"table of 17", many.answer, many.result);
+    let made = table::fresh_table(16);
+    let t = made.table;
+    tell(b"table of 16", made.answer, made.result);
+    go(b"add at 16", t, Step::Add(16, 1));
+    go(b"add at 4294967296", t, Step::Add(4294967296, 1));
+    go(b"add 9999999999", t, Step::Add(0, 9999999999));
+    go(b"draw at largest", t, Step::Draw(LARGEST, 1));
+    go(b"send to largest", t, Step::Send(0, LARGEST));
+    go(b"deliver 0", t, Step::Deliver(0));
+    go(b"deliver 64", t, Step::Deliver(64));
+    go(b"deliver 4294967296", t, Step::Deliver(4294967296));
+    go(b"lose 63", t, Step::Lose(63));
+    go(b"lose largest", t, Step::Lose(LARGEST));
+    go(b"add in no table", none.table, Step::Add(0, 1));
+    let sum = table::on_the_way(none.table);
+    tell(b"on the way in no table", sum.answer, sum.result);
+}
+
+// The pool by itself.
+fn pools() {
+    let empty = Place {
+        waiting: Waiting::Empty,
+    };
+    let m = full_message();
+    let first = table::lent::send_value([empty; 64], m);
+    let told = first.told;
+    tell(b"send into an empty pool", told.answer, told.result);
+    let after_first = first.pool;
+    let second = table::lent::send_value(after_first, m);
+    let then = second.told;
+    tell(b"send again", then.answer, then.result);
+    let after_second = second.pool;
+    let third = table::lent::lose_value(after_second, 0);
+    let lost = third.told;
+    tell(b"lose place 0", lost.answer, lost.result);
+    let after_third = third.pool;
+    let fourth = table::lent::send_value(after_third, m);
+    let again = fourth.told;
+    tell(b"send into the freed place", again.answer, again.result);
+    let after_fourth = fourth.pool;
+    let fifth = table::lent::lose_value(after_fourth, 2);
+    let nothing = fifth.told;
+    tell(b"lose an empty place", nothing.answer, nothing.result);
+    let after_fifth = fifth.pool;
+    let sixth = table::lent::lose_value(after_fifth, 64);
+    let beyond = sixth.told;
+    tell(b"lose place 64", beyond.answer, beyond.result);
+    let taken = Place {
+        waiting: Waiting::One(m),
+    };
+    let last = table::lent::send_value([taken; 64], m);
+    let full = last.told;
+    tell(b"send into a full pool", full.answer, full.result);
+}
+
 fn main() {
     stations();
     records();
     received();
+    worked();
+    edges();
+    pools();
 }

@@ -1,0 +1,79 @@
+-- For each promise of a table wrong outcomes that it rules out, beside those of one station.
+use Prim.Native.Nat.{ℕ}
+use mathlib.Core.List.{List, [], _∷_}
+use lib.ListN.{length, drop, replicate}
+use Rattle.station.specs.declared.held.HeldSlot.the-variants.{NoSlot}
+use Rattle.station.specs.declared.held.HeldToken.the-variants.{NoToken}
+use Rattle.station.specs.declared.message.Message.{Message}
+use Rattle.table.specs.declared.table.Table.{Table}
+use Rattle.table.specs.declared.planning.Step.{Step}
+use Rattle.table.specs.declared.planning.Step.the-variants.{Add, Draw, Send, Deliver, Lose}
+use Rattle.table.specs.declared.stepping.Stepped.{Stepped}
+use Rattle.table.specs.declared.pool.Waiting.{Waiting}
+use Rattle.table.specs.declared.pool.Waiting.the-variants.{Empty, One}
+use Rattle.table.specs.declared.pool.Place.{Place}
+use Rattle.table.specs.declared.lent.Told.{Told}
+use Rattle.table.specs.Table.{stationAt, waitingAt, placeIn, putStation}
+use Rattle.table.specs.Lent.{sendInTold, sendInPool, loseInTold, loseInPool}
+use Rattle.table.specs.Fresh.{freshOf}
+use Rattle.table.specs.Steps.{planOf, stepOf}
+use Rattle.table.specs.Way.{onTheWay, atStations, asked}
+use Rattle.demands.specs.Samples.{station1, from0, token}
+use Rattle.demands.specs.Wrong.{Wrong}
+
+-- two stations; station 0 holds 10 and has sent its message to place 0
+abbrev sent : Table
+sent = stepOf (stepOf (freshOf 2 .table) (Add 0 10) .table) (Send 0 1) .table
+
+-- a table in which station 1 has a token of 5 for station 0, and no slot waits for it
+abbrev stored : Table
+stored = putStation (freshOf 2 .table) 1 (station1 0 1 0 NoSlot (token 0 0 5))
+
+abbrev waitingNumber : Waiting → ℕ
+waitingNumber Empty = 0
+waitingNumber (One m) = 1
+
+-- answer, result, station 1's destination clock, and whether places 0 and 1 hold a message
+abbrev seen : Stepped → List ℕ
+seen r =
+    r .answer ∷ r .result ∷ stationAt (r .table) 1 .destination .0 ∷ waitingNumber (waitingAt (r .table) 0) ∷ waitingNumber (waitingAt (r .table) 1) ∷ []
+
+-- 64 empty places, and a message
+abbrev free : List Place
+free = replicate 64 (record { waiting = Empty })
+
+abbrev hello : Message
+hello = from0 10 0 0 NoSlot NoToken
+
+-- answer, result, whether place 0 holds a message, and how many places there are
+abbrev lentSeen : Told → List Place → List ℕ
+lentSeen r pool = r .answer ∷ r .result ∷ waitingNumber (placeIn pool 0) ∷ length pool ∷ []
+
+abbrev pub wrongTables : List Wrong
+wrongTables =
+    -- fresh_table: takes a count of 1; forgets the count
+    record { promised = freshOf 1 .answer ∷ []; wrong = 0 ∷ [] }
+    ∷ record { promised = freshOf 2 .answer ∷ freshOf 2 .table .count ∷ []; wrong = 0 ∷ 0 ∷ [] }
+    -- step: a delivery that opens no slot; a delivery that takes the message away
+    ∷ record { promised = seen (stepOf sent (Deliver 0)); wrong = 0 ∷ 0 ∷ 0 ∷ 1 ∷ 0 ∷ [] }
+    ∷ record { promised = seen (stepOf sent (Deliver 0)); wrong = 0 ∷ 0 ∷ 1 ∷ 0 ∷ 0 ∷ [] }
+    -- step: a send into a place that is taken; a loss of the neighbour; a delivery from an empty place that is nodded to
+    ∷ record { promised = seen (stepOf sent (Send 0 1)); wrong = 0 ∷ 0 ∷ 0 ∷ 1 ∷ 0 ∷ [] }
+    ∷ record { promised = seen (stepOf sent (Lose 0)); wrong = 0 ∷ 0 ∷ 0 ∷ 1 ∷ 0 ∷ [] }
+    ∷ record { promised = seen (stepOf sent (Deliver 1)); wrong = 0 ∷ 0 ∷ 0 ∷ 1 ∷ 0 ∷ [] }
+    -- plan_for: plans another station; plans what is refused
+    ∷ record { promised = let p = planOf sent (Draw 1 5) in p .answer ∷ p .at ∷ []; wrong = 0 ∷ 0 ∷ [] }
+    ∷ record { promised = let p = planOf sent (Deliver 64) in p .answer ∷ p .at ∷ []; wrong = 8 ∷ 0 ∷ [] }
+    -- on_the_way: counts a stored token that no slot waits for; answers an unsound table
+    ∷ record { promised = let r = asked stored (onTheWay stored) in r .answer ∷ r .result ∷ []; wrong = 0 ∷ 5 ∷ [] }
+    ∷ record { promised = let t = freshOf 1 .table in asked t (onTheWay t) .answer ∷ []; wrong = 0 ∷ [] }
+    -- at_stations: leaves the last station out; answers an unsound table
+    ∷ record { promised = let t = stepOf (freshOf 2 .table) (Add 1 10) .table in asked t (atStations t) .result ∷ []; wrong = 0 ∷ [] }
+    ∷ record { promised = let t = freshOf 1 .table in asked t (atStations t) .answer ∷ []; wrong = 0 ∷ [] }
+    -- send_in, send_value: takes the highest empty place; takes a slice of 63 places for a pool
+    ∷ record { promised = lentSeen (sendInTold free) (sendInPool free hello); wrong = 0 ∷ 63 ∷ 0 ∷ 64 ∷ [] }
+    ∷ record { promised = lentSeen (sendInTold (drop 1 free)) (sendInPool (drop 1 free) hello); wrong = 0 ∷ 0 ∷ 1 ∷ 63 ∷ [] }
+    -- lose_in, lose_value: leaves the message; nods at an empty place
+    ∷ record { promised = let pool = sendInPool free hello in lentSeen (loseInTold pool 0) (loseInPool pool 0); wrong = 0 ∷ 0 ∷ 1 ∷ 64 ∷ [] }
+    ∷ record { promised = lentSeen (loseInTold free 0) (loseInPool free 0); wrong = 0 ∷ 0 ∷ 0 ∷ 64 ∷ [] }
+    ∷ []

@@ -1,0 +1,9 @@
+pub mod Cutting
+pub mod Sameness
+pub mod Digits
+pub mod Asked
+pub mod Stores
+pub mod Puts
+pub mod Decimals
+pub mod Lengths
+pub mod Samples

@@ -1,0 +1,5 @@
+pub mod Words
+pub mod Parts
+pub mod Lines
+pub mod Decimal
+pub mod Script

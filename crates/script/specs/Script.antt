@@ -1,0 +1,64 @@
+-- What a script prints, from its first line to the total, for any bytes.
+use Prim.Native.Nat.{ℕ, zero, suc, _+_}
+use mathlib.Core.Bool.{Bool, cond}
+use mathlib.Core.List.{List, [], _∷_, _++_}
+use lib.Dec.{ltb}
+use lib.ListN.{length}
+use Rattle.station.specs.declared.station.Station.{Station}
+use Rattle.station.specs.Answers.{badLine, longScript}
+use Rattle.station.specs.Outcome.{noReport}
+use Rattle.table.specs.declared.table.Table.{Table}
+use Rattle.table.specs.declared.stepping.Stepped.{Stepped}
+use Rattle.table.specs.Table.{stationAt}
+use Rattle.table.specs.Fresh.{freshOf}
+use Rattle.table.specs.Steps.{stepOf}
+use Rattle.table.specs.Way.{onTheWay, atStations}
+use Rattle.script.specs.declared.words.Numeral.{Numeral}
+use Rattle.script.specs.declared.words.Numeral.the-variants.{Unreadable, Reads}
+use Rattle.script.specs.declared.lines.Line.{Line}
+use Rattle.script.specs.declared.lines.Line.the-variants.{NoStep, OneStep}
+use Rattle.script.specs.Words.{upTo, past}
+use Rattle.script.specs.Lines.{lineOf, stationsOf}
+use Rattle.script.specs.Decimal.{says, stationLine, wayLine, totalLine}
+
+-- the longest script
+abbrev pub mostBytes : ℕ
+mostBytes = 65536
+
+-- a line is a step; one that cannot be read changes nothing
+abbrev pub lineStep : Table → Line → Stepped
+lineStep t NoStep = record { answer = badLine; result = 0; report = noReport; table = t }
+lineStep t (OneStep step) = stepOf t step
+
+-- each station's value and clocks
+unfoldable pub stationLines : Table → ℕ → List ℕ
+stationLines t zero = []
+stationLines t (suc k) = let s = stationAt t k in stationLines t k ++ stationLine k (s .value) (s .source .0) (s .destination .0)
+
+-- then the sum on the way, then values plus that sum
+abbrev pub closing : Table → List ℕ
+closing t = stationLines t (t .count) ++ wayLine (onTheWay t) ++ totalLine (atStations t + onTheWay t)
+
+-- the steps from number n on, for what is left of the script: lines end in byte 10, and a last line with at least one byte needs none
+unfoldable pub runFrom : ℕ → Table → ℕ → List ℕ → List ℕ
+runFrom zero t n rest = closing t
+runFrom (suc lines) t n [] = closing t
+runFrom (suc lines) t n (b ∷ bs) =
+    let rest = b ∷ bs in
+    let s = lineStep t (lineOf (upTo 10 rest)) in
+    says n (s .answer) (s .result) ++ runFrom lines (s .table) (n + 1) (past 10 rest)
+
+-- a script that does not start prints one line
+abbrev pub started : Stepped → List ℕ → List ℕ
+started made rest = startedBy (made .answer)
+  where
+    startedBy : ℕ → List ℕ
+    startedBy zero = runFrom (length rest) (made .table) 1 rest
+    startedBy (suc n) = says 0 (suc n) 0
+
+abbrev pub openedBy : Numeral → List ℕ → List ℕ
+openedBy Unreadable rest = says 0 badLine 0
+openedBy (Reads count) rest = started (freshOf count) rest
+
+unfoldable pub outputOf : List ℕ → List ℕ
+outputOf script = cond (ltb mostBytes (length script)) (says 0 longScript 0) (openedBy (stationsOf (upTo 10 script)) (past 10 script))

@@ -1,0 +1,11 @@
+pub mod First
+pub mod Tables
+pub mod Plans
+pub mod Sums
+pub mod Puts
+pub mod Kept
+pub mod Same
+pub mod LentAnswers
+pub mod LentPool
+pub mod LentBridge
+pub mod LentSame

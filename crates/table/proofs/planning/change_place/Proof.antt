@@ -1,0 +1,15 @@
+use borrow.Author.Needs.{needs}
+use Rattle.table.proofs.planning.change_place.Statement.{statement}
+use Rattle.table.proofs.planning.change_place.Tie as tie
+
+no-report-requires : tie.Need-no-report-requires
+no-report-requires c κs = search needs
+
+blank-station-requires : tie.Need-blank-station-requires
+blank-station-requires c κs = search needs
+
+returns : tie.Need-returns
+returns c = rw (c .before .no-report .ensures, c .blank-station .ensures)
+
+pub change-place-spec : {M : Type 1} → statement M
+change-place-spec = tie.close (tie.spec no-report-requires blank-station-requires returns)

@@ -1,0 +1,62 @@
+use mathlib.Core.Path.{_≡_, ap, sym, _∙_}
+use native.Mathlib.Omega.{arith}
+use borrow.Author.Needs.{needs}
+use Prim.Native.Nat.{ℕ, _≤_, _-_}
+use mathlib.Core.Bool.{Bool}
+use Rattle.station.specs.Below.{allBelow}
+use Rattle.table.specs.declared.table.Table.{Table}
+use Rattle.station.proofs.Below.{all-none, all-more}
+use Rattle.table.specs.Table.{waitingAt}
+use Rattle.table.specs.Sound.{placeSound}
+use Rattle.table.proofs.sound.places_are_sound.Statement.{statement}
+use Rattle.table.proofs.sound.places_are_sound.Tie as tie
+
+abbrev test : Table → ℕ → Bool
+test t p = placeSound (waitingAt t p) (t .count)
+
+abbrev Inv-loop : tie.InvT-loop
+Inv-loop t count sound₀ p₀ sound p = (p ≤ 64) × (sound ≡ allBelow (test t) p)
+
+abbrev μ-loop : tie.MeasureT-loop
+μ-loop t count sound₀ p₀ sound p = 64 - p
+
+loop-holds : tie.Need-loop-holds Inv-loop μ-loop
+loop-holds c = (search needs, sym (all-none _))
+
+mul-place : tie.Need-mul-place Inv-loop μ-loop
+mul-place c = search needs
+
+element-copy-out-place : tie.Need-element-copy-out-place Inv-loop μ-loop
+element-copy-out-place c = search needs
+
+place-is-sound-requires : tie.Need-place-is-sound-requires Inv-loop μ-loop
+place-is-sound-requires c κs = search needs
+
+add-p : tie.Need-add-p Inv-loop μ-loop
+add-p c = search needs
+
+loop-less : tie.Need-loop-less Inv-loop μ-loop
+loop-less c = search needs
+
+loop-again : tie.Need-loop-again Inv-loop μ-loop
+loop-again c =
+    let at = c .before .before .before .loop in
+    (omega arith, rw (c .place-is-sound .ensures, at .inv .1) (sym (all-more (test (c .before .before .before .before .args .t1)) (at .p))))
+
+returns : tie.Need-returns Inv-loop μ-loop
+returns c = let at = c .before .loop in at .inv .1 ∙ ap (allBelow (test (c .before .before .args .t1))) (omega arith)
+
+pub places-are-sound-spec : {M : Type 1} → statement M
+places-are-sound-spec =
+    tie.close
+    (tie.spec
+    Inv-loop
+    μ-loop
+    loop-holds
+    mul-place
+    element-copy-out-place
+    place-is-sound-requires
+    add-p
+    loop-less
+    loop-again
+    returns)

@@ -1,0 +1,49 @@
+-- What the steps on a lent pool tell, and the pool that they leave.
+use Prim.Native.Nat.{ℕ, zero, suc}
+use mathlib.Core.Bool.{not}
+use mathlib.Core.List.{List}
+use lib.Dec.{eqb, ltb}
+use lib.ListN.{length, set}
+use Rattle.station.specs.Answers.{done, notSound, poolFull, noSuchPlace, emptyPlace}
+use Rattle.station.specs.Outcome.{first}
+use Rattle.station.specs.declared.message.Message.{Message}
+use Rattle.table.specs.Table.{mostPlaces, placeIn, isEmpty, lowestEmpty}
+use Rattle.table.specs.declared.lent.Told.{Told}
+use Rattle.table.specs.declared.pool.Place.{Place}
+use Rattle.table.specs.declared.pool.Waiting.the-variants.{Empty, One}
+
+-- a place that holds no message, and one that holds m
+abbrev pub cleared : Place
+cleared = record { waiting = Empty }
+
+abbrev pub holding : Message → Place
+holding m = record { waiting = One m }
+
+-- the answer, and the result where it is 0. A refusal has result 0
+abbrev pub told : ℕ → ℕ → Told
+told zero result = record { answer = done; result = result }
+told (suc n) result = record { answer = suc n; result = 0 }
+
+-- answer 0 leaves the pool changed; any other is a refusal, and leaves it as it is
+abbrev pub left : ℕ → List Place → List Place → List Place
+left zero pool changed = changed
+left (suc n) pool changed = pool
+
+abbrev pub sendInAnswer : List Place → ℕ
+sendInAnswer pool = first (not (eqb (length pool) mostPlaces)) notSound (first (not (ltb (lowestEmpty pool) mostPlaces)) poolFull done)
+
+-- the result is the place
+abbrev pub sendInTold : List Place → Told
+sendInTold pool = told (sendInAnswer pool) (lowestEmpty pool)
+
+abbrev pub sendInPool : List Place → Message → List Place
+sendInPool pool m = left (sendInAnswer pool) pool (set pool (lowestEmpty pool) (holding m))
+
+abbrev pub loseInAnswer : List Place → ℕ → ℕ
+loseInAnswer pool p = first (not (eqb (length pool) mostPlaces)) notSound (first (not (ltb p mostPlaces)) noSuchPlace (first (isEmpty (placeIn pool p)) emptyPlace done))
+
+abbrev pub loseInTold : List Place → ℕ → Told
+loseInTold pool p = told (loseInAnswer pool p) 0
+
+abbrev pub loseInPool : List Place → ℕ → List Place
+loseInPool pool p = left (loseInAnswer pool p) pool (set pool p cleared)

@@ -1,0 +1,41 @@
+-- The passes at the stations of a table, and the passes on the way.
+use Prim.Native.Nat.{ℕ, zero, suc, _+_}
+use mathlib.Core.Bool.{cond}
+use Rattle.station.specs.declared.held.HeldSlot.{HeldSlot}
+use Rattle.station.specs.declared.held.HeldSlot.the-variants.{NoSlot, OneSlot}
+use Rattle.station.specs.declared.held.HeldToken.{HeldToken}
+use Rattle.station.specs.declared.held.HeldToken.the-variants.{NoToken, OneToken}
+use Rattle.station.specs.Answers.{done, notSound}
+use Rattle.station.specs.Held.{slotFor, tokenFor}
+use Rattle.station.specs.Rules.{agree}
+use Rattle.table.specs.declared.table.Table.{Table}
+use Rattle.table.specs.declared.way.Summed.{Summed}
+use Rattle.table.specs.Table.{stationAt}
+use Rattle.table.specs.Sound.{tableSound}
+
+unfoldable pub sumBelow : (ℕ → ℕ) → ℕ → ℕ
+sumBelow f zero = 0
+sumBelow f (suc n) = sumBelow f n + f n
+
+-- a token is on the way while its destination has a slot for its maker with both clocks the same
+abbrev pub travels : HeldToken → HeldSlot → ℕ
+travels (OneToken t) (OneSlot l) = cond (agree t l) (t .quantity) 0
+travels (OneToken t) NoSlot = 0
+travels NoToken h = 0
+
+-- from station i to station j
+abbrev pub between : Table → ℕ → ℕ → ℕ
+between t i j = travels (tokenFor (stationAt t i) j) (slotFor (stationAt t j) i)
+
+abbrev pub wayFrom : Table → ℕ → ℕ
+wayFrom t i = sumBelow (between t i) (t .count)
+
+abbrev pub onTheWay : Table → ℕ
+onTheWay t = sumBelow (wayFrom t) (t .count)
+
+abbrev pub atStations : Table → ℕ
+atStations t = sumBelow (λ k. stationAt t k .value) (t .count)
+
+-- a sum can be asked of a table: 1 where it is not sound
+abbrev pub asked : Table → ℕ → Summed
+asked t sum = cond (tableSound t) (record { answer = done; result = sum }) (record { answer = notSound; result = 0 })

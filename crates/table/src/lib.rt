@@ -1,0 +1,15 @@
+// A whole table of stations with the messages waiting between them, driven by steps.
+pub mod fresh;
+pub mod lent;
+pub mod planning;
+pub mod pool;
+mod sound;
+pub mod stepping;
+pub mod table;
+pub mod way;
+
+pub use fresh::fresh_table;
+pub use planning::plan_for;
+pub use stepping::step;
+pub use way::at_stations;
+pub use way::on_the_way;

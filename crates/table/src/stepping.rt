@@ -1,0 +1,57 @@
+// A step done: what it tells, and the table after it.
+ghost use mathlib.Core.Path.{_≡_};
+ghost use Prim.Native.Nat.{_<_};
+ghost use Rattle.station.specs.Limits.{mostStations};
+ghost use Rattle.table.specs.Table.{mostPlaces};
+ghost use Rattle.table.specs.Steps.{applied, stepOf, Applies};
+use crate::planning::Change;
+use crate::planning::Plan;
+use crate::planning::Step;
+use crate::planning::plan_for;
+use crate::pool::Place;
+use crate::table::Table;
+use station::outcome::Report;
+
+// The numbered answer, the result, the report, and the table as it then is.
+pub struct Stepped {
+    pub answer: u8,
+    pub result: u64,
+    pub report: Report,
+    pub table: Table,
+}
+
+// The table with what a plan changes: one station, one place, or nothing.
+pub(crate) fn apply(t: Table, p: Plan) -> Table
+    requires { ⌜ Applies p ⌝ }
+    ensures { λ r. ⌜ r ≡ applied t p ⌝ }
+{
+    let mut next = t;
+    let at = p.at;
+    let change = p.change;
+    match change {
+        Change::Nothing => {}
+        Change::AtStation => {
+            let station = p.station;
+            next.stations[at] = station;
+        }
+        Change::AtPlace => {
+            let waiting = p.waiting;
+            next.pool[at] = Place { waiting };
+        }
+    }
+    next
+}
+
+// One step of a table: refused by add 1, 2, 4, 5, 10; draw 1, 2, 4; send 1, 2, 3, 6; deliver 1, 7, 8, 10; lose 1, 7, 8.
+pub fn step(t: Table, step: Step) -> Stepped
+    ensures { λ r. ⌜ r ≡ stepOf t step ⌝ }
+{
+    let p = plan_for(t, step);
+    let report = p.report;
+    Stepped {
+        answer: p.answer,
+        result: p.result,
+        report,
+        table: apply(t, p),
+    }
+}
