@@ -1,3 +1,3 @@
 pub mod CasesHold
 pub mod Settled
-pub mod WrongTablesOut
+pub mod WrongsOut

@@ -15,6 +15,9 @@ use Rattle.station.specs.Outcome.{noReport}
 use Rattle.station.specs.Rules.{agree}
 use Rattle.station.specs.Sound.{countSound, stationSound, messageSound}
 use Rattle.station.specs.Steps.{blank, noMessage, freshOf, addOf, drawOf, showOf, receiveOf, messageFor}
+use Rattle.script.specs.declared.running.Opened.{Opened}
+use Rattle.script.specs.declared.running.Advanced.{Advanced}
+use Rattle.script.specs.Running.{openOf, advanceOf}
 use Rattle.table.specs.declared.table.Table.{Table}
 use Rattle.table.specs.declared.planning.Step.{Step}
 use Rattle.table.specs.declared.planning.Plan.{Plan}
@@ -128,3 +131,11 @@ module _ (pool : List Place) (m : Message) (n : ℕ) where
   pub lose-value-settled : {x y : Pooled} → x ≡ record { told = loseInTold pool n; pool = loseInPool pool n }
       → y ≡ record { told = loseInTold pool n; pool = loseInPool pool n } → x ≡ y
   lose-value-settled p q = one p q
+
+-- a script. The promises of `start` and `fill` leave open how much is put at once: see docs/DECISIONS.md.
+module _ (bytes : List ℕ) (t : Table) (n : ℕ) where
+  pub open-settled : {x y : Opened} → x ≡ openOf bytes → y ≡ openOf bytes → x ≡ y
+  open-settled p q = one p q
+
+  pub advance-settled : {x y : Advanced} → x ≡ advanceOf bytes t n → y ≡ advanceOf bytes t n → x ≡ y
+  advance-settled p q = one p q

@@ -4,3 +4,4 @@ pub mod Halves
 pub mod Cuts
 pub mod Wrong
 pub mod WrongTables
+pub mod WrongScripts

@@ -28,6 +28,13 @@ pub index-within : (byte : ℕ) (xs : List ℕ) → indexOf byte xs ≤ length x
 index-within byte [] = omega arith
 index-within byte (x ∷ xs) = within-by (eqb x byte) (indexOf byte xs) (length xs) (index-within byte xs)
 
+-- what is left from a place on
+pub left-all : (at : ℕ) (xs : List ℕ) → take (length xs - at) (drop at xs) ≡ drop at xs
+left-all at xs = take-all (length xs - at) (drop at xs) (rw length-drop (omega arith))
+
+pub left-none : (at : ℕ) (xs : List ℕ) → length xs ≤ at → take 0 xs ≡ drop at xs
+left-none at xs h = rw (drop-of-length-le xs h)
+
 -- the parts of a list that is cut there
 module _ (byte : ℕ) (xs : List ℕ) (i : ℕ) (e : i ≡ indexOf byte xs) where
   pub front-length : i ≡ length (take i xs)

@@ -2,8 +2,12 @@ pub mod Cutting
 pub mod Sameness
 pub mod Digits
 pub mod Asked
-pub mod Stores
 pub mod Puts
 pub mod Decimals
 pub mod Lengths
+pub mod Closings
+pub mod Runs
+pub mod Fills
+pub mod Starts
+pub mod Whole
 pub mod Samples

@@ -1,6 +1,6 @@
 -- A line of a script: words with one space between.
 use Prim.Native.Nat.{ℕ}
-use mathlib.Core.Bool.{Bool, cond}
+use mathlib.Core.Bool.{cond}
 use mathlib.Core.List.{List, [], _∷_}
 use Rattle.table.specs.declared.planning.Step.{Step}
 use Rattle.table.specs.declared.planning.Step.the-variants.{Add, Draw, Send, Deliver, Lose}

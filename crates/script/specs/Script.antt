@@ -1,10 +1,9 @@
 -- What a script prints, from its first line to the total, for any bytes.
 use Prim.Native.Nat.{ℕ, zero, suc, _+_}
-use mathlib.Core.Bool.{Bool, cond}
+use mathlib.Core.Bool.{cond}
 use mathlib.Core.List.{List, [], _∷_, _++_}
 use lib.Dec.{ltb}
 use lib.ListN.{length}
-use Rattle.station.specs.declared.station.Station.{Station}
 use Rattle.station.specs.Answers.{badLine, longScript}
 use Rattle.station.specs.Outcome.{noReport}
 use Rattle.table.specs.declared.table.Table.{Table}

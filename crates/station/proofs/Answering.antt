@@ -1,13 +1,12 @@
 -- Answers looked for in order, and what follows where the answer is 0. Assumes nothing.
 use Prim.Native.Nat.{ℕ, zero, suc, _+_, _<_, _≤_}
 use mathlib.Core.Path.{_≡_, refl}
-use mathlib.Core.Bool.{Bool, true, false, not, _&&_}
+use mathlib.Core.Bool.{Bool, true, false, not}
 use native.Mathlib.Omega.{arith}
 use lib.Dec.{ltb, leb, eqb}
 use borrow.Author.Tests.{ltb-true, ltb-false, leb-true, not-false, eqb-true, eqb-false}
 use Rattle.station.specs.declared.station.Station.{Station}
 use Rattle.station.specs.declared.message.Message.{Message}
-use Rattle.station.specs.declared.message.Shown.{Shown}
 use Rattle.station.specs.declared.outcome.Outcome.{Outcome}
 use Rattle.station.specs.Limits.{mostAmount, mostIntake, mostValue}
 use Rattle.station.specs.Side.{sideFor}
@@ -17,7 +16,7 @@ use Rattle.station.specs.Taking.{Takes}
 use Rattle.station.specs.Outcome.{refused, first, answered}
 use Rattle.station.specs.Steps.{noMessage, showing, amountSound, addAnswer, drawAnswer, showAnswer, endsBelow, receiveAnswer}
 use Rattle.station.proofs.Below.{both-hold}
-use Rattle.station.proofs.Parts.{SoundStation, station-parts, SoundMessage, message-parts, token-fits}
+use Rattle.station.proofs.Parts.{station-parts, message-parts, token-fits}
 
 pub when-done : {n : ℕ} (s : Station) (d : Outcome) → n ≡ 0 → d ≡ answered n s d
 when-done s d e = rw e

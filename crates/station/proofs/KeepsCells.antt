@@ -1,11 +1,9 @@
 -- A sound side, with its clocks where they were or later, put back for a peer leaves a sound station. Assumes nothing.
-use Prim.Native.Nat.{ℕ, zero, suc, _<_, _≤_}
-use mathlib.Core.Path.{_≡_, refl, ap}
+use Prim.Native.Nat.{ℕ, _<_, _≤_}
+use mathlib.Core.Path.{_≡_, refl}
 use mathlib.Core.Bool.{true, _||_, and-false}
-use mathlib.Core.List.{List, [], _∷_}
 use native.Mathlib.Omega.{arith}
 use lib.Dec.{ltb}
-use lib.ListN.{getD, set}
 use borrow.Author.Tests.{ltb-true, lt-ltb}
 use Rattle.station.specs.declared.clocks.SourceClock.{SourceClock}
 use Rattle.station.specs.declared.clocks.DestinationClock.{DestinationClock}
@@ -21,17 +19,10 @@ use Rattle.station.specs.Limits.{mostStations}
 use Rattle.station.specs.Held.{noSlot, noToken, slotFor, tokenFor}
 use Rattle.station.specs.Side.{sideFor, putSide}
 use Rattle.station.specs.Sound.{slotSound, tokenSound, holdsNothing, isPeer}
+use Rattle.station.proofs.Stores.{stored}
 use Rattle.station.proofs.Below.{needed}
 use Rattle.station.proofs.Parts.{SoundStation}
 use Rattle.station.proofs.KeepsSide.{SoundSide}
-
--- after a store at k the cell at j is the stored one, and then j is k, or the one that was there
-stored : {A : Type 0} (P : A → Type 0) {v : A} (xs : List A) (k j : ℕ) (d : A) → (j ≡ k → P v) → P (getD xs j d) → P (getD (set xs k v) j d)
-stored P [] k j d new old = old
-stored P (x ∷ xs) zero zero d new old = new refl
-stored P (x ∷ xs) zero (suc j) d new old = old
-stored P (x ∷ xs) (suc k) zero d new old = old
-stored P (x ∷ xs) (suc k) (suc j) d new old = stored P xs k j d (λ e. new (ap suc e)) old
 
 -- what lies below a clock lies below a later one: so a slot stays sound, and a token
 below-later : (a : ℕ) {k l : ℕ} → k ≤ l → ltb a k ≡ true → ltb a l ≡ true

@@ -1,4 +1,5 @@
 pub mod Below
+pub mod Stores
 pub mod Signed
 pub mod Ruling
 pub mod Parts

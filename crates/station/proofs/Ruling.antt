@@ -1,6 +1,6 @@
 -- What each rule comes to, by what is held and shown and by its test. Assumes nothing.
 use Prim.Native.Nat.{ℕ, _+_, min}
-use mathlib.Core.Path.{_≡_, refl}
+use mathlib.Core.Path.{_≡_}
 use mathlib.Core.Bool.{Bool, true, false, _&&_}
 use lib.Dec.{eqb, ltb, leb}
 use Rattle.station.specs.declared.held.Slot.{Slot}

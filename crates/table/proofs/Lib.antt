@@ -9,3 +9,4 @@ pub mod LentAnswers
 pub mod LentPool
 pub mod LentBridge
 pub mod LentSame
+pub mod FreshSound

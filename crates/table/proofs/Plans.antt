@@ -10,7 +10,7 @@ use Rattle.station.specs.declared.message.Message.{Message}
 use Rattle.station.specs.declared.message.Shown.{Shown}
 use Rattle.station.specs.declared.outcome.Outcome.{Outcome}
 use Rattle.station.specs.Limits.{mostStations}
-use Rattle.station.specs.Outcome.{first, orElse}
+use Rattle.station.specs.Outcome.{orElse}
 use Rattle.station.specs.Side.{sideFor}
 use Rattle.station.specs.Taking.{takeOf}
 use Rattle.station.specs.Steps.{showOf, receiveAnswer, received as told, receiveOf}

@@ -1,10 +1,8 @@
 -- What is put into a sound table leaves it sound, and what a step of a seated station leaves may be put there. Assumes nothing.
 use Prim.Native.Nat.{ℕ, zero, suc, _<_}
-use mathlib.Core.Path.{_≡_, refl, ap, _∙_}
+use mathlib.Core.Path.{_≡_, refl, _∙_}
 use mathlib.Core.Bool.{true, or-true}
-use mathlib.Core.List.{List, [], _∷_}
 use native.Mathlib.Omega.{arith}
-use lib.ListN.{getD, set}
 use borrow.Author.Tests.{lt-ltb, eq-eqb}
 use Rattle.station.specs.declared.station.Station.{Station}
 use Rattle.station.specs.declared.message.Message.{Message}
@@ -18,15 +16,8 @@ use Rattle.table.specs.declared.pool.Place.{Place}
 use Rattle.table.specs.declared.table.Table.{Table}
 use Rattle.table.specs.Table.{stationAt, putStation, putPlace}
 use Rattle.table.specs.Sound.{seatSound, placeSound}
+use Rattle.station.proofs.Stores.{stored}
 use Rattle.table.proofs.Tables.{Seated, Waits, SoundTable, seated}
-
--- after a store at k the element at j is the stored one, and then j is k, or the one that was there
-stored : {A : Type 0} (P : A → Type 0) {v : A} (xs : List A) (k j : ℕ) (d : A) → (j ≡ k → P v) → P (getD xs j d) → P (getD (set xs k v) j d)
-stored P [] k j d new old = old
-stored P (x ∷ xs) zero zero d new old = new refl
-stored P (x ∷ xs) zero (suc j) d new old = old
-stored P (x ∷ xs) (suc k) zero d new old = old
-stored P (x ∷ xs) (suc k) (suc j) d new old = stored P xs k j d (λ e. new (ap suc e)) old
 
 -- in a sound table a station below the count is seated; and back: a seat, and a place with a message of the table, are sound
 pub seat-of : {t : Table} → SoundTable t → (k : ℕ) → k < t .count → Seated (stationAt t k) k (t .count)

@@ -8,7 +8,7 @@ use Rattle.station.specs.declared.held.HeldSlot.{HeldSlot}
 use Rattle.station.specs.declared.held.HeldSlot.the-variants.{NoSlot, OneSlot}
 use Rattle.station.specs.declared.held.HeldToken.{HeldToken}
 use Rattle.station.specs.declared.held.HeldToken.the-variants.{NoToken, OneToken}
-use Rattle.station.specs.Limits.{mostStations, mostValue}
+use Rattle.station.specs.Limits.{mostValue}
 use Rattle.station.specs.Held.{tokenFor}
 use Rattle.station.specs.Rules.{agree}
 use Rattle.station.specs.Taking.{tokenFits}

@@ -1,8 +1,7 @@
 -- Soundness of a table, part by part. Assumes nothing.
 use Prim.Native.Nat.{ℕ, _<_, _≤_}
-use mathlib.Core.Path.{_≡_, refl}
-use mathlib.Core.Bool.{Bool, true, false, _&&_, _||_, and-false}
-use native.Mathlib.Omega.{arith}
+use mathlib.Core.Path.{_≡_}
+use mathlib.Core.Bool.{true, false, _&&_, and-false}
 use lib.Dec.{ltb, leb, eqb}
 use borrow.Author.Tests.{leb-true, ltb-true, eqb-true, lt-leb, le-leb}
 use Rattle.station.specs.declared.station.Station.{Station}
@@ -11,8 +10,7 @@ use Rattle.station.specs.Limits.{mostStations}
 use Rattle.station.specs.Below.{allBelow}
 use Rattle.station.specs.Sound.{stationSound, messageSound}
 use Rattle.station.proofs.Below.{needed, all-at, all-from}
-use Rattle.table.specs.declared.pool.Waiting.{Waiting}
-use Rattle.table.specs.declared.pool.Waiting.the-variants.{Empty, One}
+use Rattle.table.specs.declared.pool.Waiting.the-variants.{One}
 use Rattle.table.specs.declared.table.Table.{Table}
 use Rattle.table.specs.Table.{mostPlaces, stationAt, waitingAt}
 use Rattle.table.specs.Sound.{seatSound, placeSound, tableSound}

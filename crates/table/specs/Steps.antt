@@ -1,10 +1,8 @@
 -- The steps of a table: what each answers, under which conditions in which order, and what it changes.
 use Prim.Native.Nat.{ℕ, zero, suc, _<_}
-use mathlib.Core.Bool.{Bool, not, cond}
-use mathlib.Core.List.{List}
+use mathlib.Core.Bool.{not}
 use lib.Dec.{ltb}
 use Rattle.station.specs.declared.station.Station.{Station}
-use Rattle.station.specs.declared.message.Message.{Message}
 use Rattle.station.specs.declared.message.Shown.{Shown}
 use Rattle.station.specs.declared.outcome.Outcome.{Outcome}
 use Rattle.station.specs.Answers.{done, notSound, notBelowCount, poolFull, noSuchPlace, emptyPlace}

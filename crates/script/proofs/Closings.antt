@@ -1,0 +1,97 @@
+-- The closing lines: one station at a time, their lengths, and the sums that they tell. Assumes nothing.
+use Prim.Native.Nat.{ℕ, zero, suc, _+_, _*_, _≤_, _<_}
+use mathlib.Core.Path.{_≡_, refl, ap}
+use mathlib.Core.Bool.{Bool, true, false}
+use mathlib.Core.List.{List, [], _++_}
+use native.Mathlib.Numerals.{add-one}
+use native.Mathlib.Omega.{arith}
+use lib.ListN.{length, length-append}
+use lib.Seq.{sets}
+use Rattle.station.specs.Limits.{mostStations, mostValue}
+use Rattle.table.specs.declared.table.Table.{Table}
+use Rattle.table.specs.declared.way.Summed.{Summed}
+use Rattle.table.specs.Table.{stationAt}
+use Rattle.table.specs.Sound.{tableSound}
+use Rattle.table.specs.Way.{asked, atStations, between, onTheWay, sumBelow, wayFrom}
+use Rattle.table.proofs.Tables.{table-parts}
+use Rattle.table.proofs.Sums.{between-small, station-sound}
+use Rattle.script.specs.Decimal.{totalLine, wayLine}
+use Rattle.script.specs.Script.{stationLines}
+use Rattle.script.specs.Closing.{closingOf, closingRoom, seatLine}
+use Rattle.script.proofs.Lengths.{length-station, length-total, length-way}
+use Rattle.script.proofs.Puts.{both}
+
+pub no-stations : (t : Table) → stationLines t 0 ≡ []
+unfolding stationLines
+no-stations t = refl
+
+more-stations : (t : Table) (k : ℕ) → stationLines t (k + 1) ≡ stationLines t k ++ seatLine k (stationAt t k)
+unfolding stationLines
+more-stations t k = rw (add-one k)
+
+pub length-stations : (t : Table) (k : ℕ) → length (stationLines t k) ≤ 117 * k
+unfolding stationLines
+length-stations t zero = omega arith
+length-stations t (suc k) =
+    let s = stationAt t k in
+    rw length-append (omega (arith, length-stations t k, length-station k (s .value) (s .source .0) (s .destination .0)))
+
+-- the next station's line put behind those before it
+pub station-turn : (b : List ℕ) (at : ℕ) (t : Table) (k next end : ℕ) (a a′ : List ℕ) → (next ≡ at + length (stationLines t k)) × (a ≡ sets b at (stationLines t k)) → (end ≡ next + length (seatLine k (stationAt t k))) × (a′ ≡ sets a next (seatLine k (stationAt t k))) → (end ≡ at + length (stationLines t (k + 1))) × (a′ ≡ sets b at (stationLines t (k + 1)))
+station-turn b at t k next end a a′ e e′ = rw (more-stations t k) (both b at (stationLines t k) (seatLine k (stationAt t k)) next end a a′ e e′)
+
+pub stations-put : (b : List ℕ) (at : ℕ) (t : Table) (k n next : ℕ) (a : List ℕ) → k ≡ n → (next ≡ at + length (stationLines t k)) × (a ≡ sets b at (stationLines t k)) → (next ≡ at + length (stationLines t n)) × (a ≡ sets b at (stationLines t n))
+stations-put b at t k n next a e f = rw (← e) f
+
+-- a sum of so many numbers that are each in range
+sum-small : (f : ℕ → ℕ) (most n : ℕ) → ((k : ℕ) → k < n → f k ≤ most) → sumBelow f n ≤ n * most
+unfolding sumBelow
+sum-small f most zero h = omega arith
+sum-small f most (suc n) h = omega (arith, sum-small f most n (λ k l. h k (omega arith)), h n (omega arith))
+
+module _ (t : Table) (e : tableSound t ≡ true) where
+  pub at-stations-small : atStations t ≤ mostStations * mostValue
+  at-stations-small =
+      let m = table-parts t e .most in
+      omega (arith, sum-small (λ k. stationAt t k .value) mostValue (t .count) (λ k h. station-sound t e k h .value))
+
+  way-from-small : (i : ℕ) → i < t .count → wayFrom t i ≤ mostStations * mostValue
+  way-from-small i l =
+      let m = table-parts t e .most in
+      omega (arith, sum-small (between t i) mostValue (t .count) (λ j h. between-small t e i j l h))
+
+  pub on-the-way-small : onTheWay t ≤ mostStations * (mostStations * mostValue)
+  on-the-way-small =
+      let m = table-parts t e .most in
+      omega (arith, sum-small (wayFrom t) (mostStations * mostValue) (t .count) way-from-small)
+
+-- a sum that was asked for is told where the table is sound
+pub was-sound : (t : Table) (sum : ℕ) {r : Summed} → r ≡ asked t sum → r .answer ≡ 0 → tableSound t ≡ true
+was-sound t sum e z = by (tableSound t) refl
+  where
+    by : (b : Bool) → tableSound t ≡ b → tableSound t ≡ true
+    by true f = f
+    by false f = let n : _≡_ {A = ℕ} 0 1 = cc (rw f at e) in absurd (omega arith)
+
+pub was-not-sound : (t : Table) (sum : ℕ) {r : Summed} → r ≡ asked t sum → (r .answer ≡ 0 → ⊥) → tableSound t ≡ false
+was-not-sound t sum {r} e z = by (tableSound t) refl
+  where
+    by : (b : Bool) → tableSound t ≡ b → tableSound t ≡ false
+    by true f = absurd (z (ap (λ (s : Summed). s .answer) (rw f at e)))
+    by false f = f
+
+pub sum-told : (t : Table) (sum : ℕ) {r : Summed} → r ≡ asked t sum → tableSound t ≡ true → r .result ≡ sum
+sum-told t sum e f = ap (λ (s : Summed). s .result) (rw f at e)
+
+-- the closing lines fit the room that is asked for them
+pub length-closing : (t : Table) → length (closingOf t) ≤ closingRoom
+length-closing t = by (tableSound t) refl
+  where
+    by : (b : Bool) → tableSound t ≡ b → length (closingOf t) ≤ closingRoom
+    by true e =
+        let m = table-parts t e .most in
+        let lines = stationLines t (t .count) in
+        let way = onTheWay t in
+        let total = atStations t + onTheWay t in
+        rw (e, length-append (lines ++ wayLine way) (totalLine total), length-append lines (wayLine way)) (omega (arith, length-stations t (t .count), length-way way, length-total total))
+    by false e = rw e (omega arith)

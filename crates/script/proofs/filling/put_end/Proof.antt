@@ -1,0 +1,15 @@
+use borrow.Author.Needs.{needs}
+use Rattle.script.proofs.filling.put_end.Statement.{statement}
+use Rattle.script.proofs.filling.put_end.Tie as tie
+
+put-closing-requires : tie.Need-put-closing-requires
+put-closing-requires c κs = search needs
+
+same-length : tie.Need-same-length
+same-length c = search needs
+
+returns : tie.Need-returns
+returns c = (rw (c .before .before .put-closing .ensures .0), c .before .before .put-closing .ensures .1)
+
+pub put-end-spec : {M : Type 1} → statement M
+put-end-spec = tie.close (tie.spec put-closing-requires same-length returns)

@@ -1,0 +1,71 @@
+-- A fresh table is sound. Assumes nothing.
+use Prim.Native.Nat.{ℕ, zero, suc, _<_, _≤_}
+use mathlib.Core.Path.{_≡_, refl, _∙_}
+use mathlib.Core.Bool.{Bool, true, false}
+use native.Mathlib.Omega.{arith}
+use native.Mathlib.Decide.{ℕ-discrete}
+use lib.Dec.{ltb, leb}
+use lib.ListN.{length, getD, set, length-set, getD-replicate}
+use lib.Seq.{getD-set-same, getD-set-other}
+use borrow.Author.Tests.{leb-true, ltb-true, le-leb, lt-leb, lt-ltb, eq-eqb, ltb-false}
+use Rattle.station.specs.declared.station.Station.{Station}
+use Rattle.station.specs.Limits.{mostStations}
+use Rattle.station.specs.Sound.{countSound, stationSound}
+use Rattle.station.specs.Steps.{blank, freshAnswer, freshOf as freshStation}
+use Rattle.station.proofs.Below.{both-hold}
+use Rattle.station.proofs.Keeps.{fresh-sound}
+use Rattle.table.specs.declared.pool.Place.{Place}
+use Rattle.table.specs.declared.pool.Waiting.the-variants.{Empty}
+use Rattle.table.specs.Table.{mostPlaces, stationAt, waitingAt}
+use Rattle.table.specs.Sound.{seatSound, placeSound, tableSound}
+use Rattle.table.specs.Fresh.{seatsTo, blankTable, freshOf}
+use Rattle.table.proofs.Tables.{table-whole}
+
+length-seats : (count k : ℕ) → length (seatsTo count k) ≡ mostStations
+unfolding seatsTo
+length-seats count zero = refl
+length-seats count (suc k) = length-set (seatsTo count k) k (blank k count) ∙ length-seats count k
+
+-- one station more
+next-seat : (count n k : ℕ) (d : Station) → n < mostStations → (k < n → getD (seatsTo count n) k d ≡ blank k count) → Dec (k ≡ n) → k < suc n
+    → getD (set (seatsTo count n) n (blank n count)) k d ≡ blank k count
+next-seat count n k d most before (yes e) h = rw e (getD-set-same (seatsTo count n) n (blank n count) d (omega (arith, length-seats count n)))
+next-seat count n k d most before (no other) h =
+    getD-set-other (seatsTo count n) n k (blank n count) d other ∙ before (below-or-last (ltb k n) refl)
+  where
+    below-or-last : (b : Bool) → ltb k n ≡ b → k < n
+    below-or-last true e = ltb-true k n e
+    below-or-last false e = let l = ltb-false k n e in absurd (other (omega arith))
+
+-- below the bound each station is fresh, with its own number
+seat-at : (count n k : ℕ) (d : Station) → k < n → n ≤ mostStations → getD (seatsTo count n) k d ≡ blank k count
+unfolding seatsTo
+seat-at count zero k d h most = absurd (omega arith)
+seat-at count (suc n) k d h most =
+    next-seat count n k d (omega arith) (λ less. seat-at count n k d less (omega arith)) (ℕ-discrete k n) h
+
+blank-sound : (number count : ℕ) → countSound count ≡ true → number < count → stationSound (blank number count) ≡ true
+unfolding freshStation
+blank-sound number count e h =
+    let a : freshAnswer number count ≡ 0 = rw (e, lt-ltb number count h) in
+    rw a at (fresh-sound number count a)
+
+module _ (count : ℕ) (e : countSound count ≡ true) where
+  most : count ≤ mostStations
+  most = leb-true _ _ (both-hold (leb 2 count) _ e .1)
+
+  seats-by : (k : ℕ) (b : Bool) → ltb k count ≡ b → seatSound (stationAt (blankTable count) k) k count ≡ true
+  seats-by k false t = rw (le-leb count k (ltb-false k count t))
+  seats-by k true t =
+      let h = ltb-true k count t in
+      rw (seat-at count count k _ h most, lt-leb count k h, blank-sound k count e h, eq-eqb k k refl, eq-eqb count count refl)
+
+  places : (p : ℕ) → p < mostPlaces → placeSound (waitingAt (blankTable count) p) count ≡ true
+  places p h = rw (getD-replicate {A = Place} mostPlaces p (record { waiting = Empty }) (record { waiting = Empty }) h)
+
+  pub fresh-table-sound : tableSound (freshOf count .table) ≡ true
+  unfolding freshOf
+  fresh-table-sound =
+      rw e
+      (table-whole (blankTable count)
+      (record { least = leb-true _ _ (both-hold (leb 2 count) _ e .0); most = most; seats = λ k h. seats-by k (ltb k count) refl; places = places }))
