@@ -1,3 +1,4 @@
 pub mod CasesHold
 pub mod Settled
 pub mod WrongsOut
+pub mod Shared

@@ -1,0 +1,45 @@
+-- Bytes, stations and tables share their definitions: receiving a message's record is a delivery of it, and the record that a station writes is the
+-- writing of the message that a send places. Assumes nothing.
+use Prim.Native.Nat.{ℕ, _<_}
+use mathlib.Core.Path.{_≡_, refl, ap, sym, _∙_}
+use mathlib.Core.Bool.{true}
+use mathlib.Core.List.{List}
+use lib.ListN.{length}
+use Rattle.station.specs.declared.station.Station.{Station}
+use Rattle.station.specs.declared.message.Message.{Message}
+use Rattle.station.specs.Limits.{mostStations}
+use Rattle.station.specs.Sound.{messageSound}
+use Rattle.station.specs.Steps.{showAnswer, messageFor, receiveOf}
+use Rattle.record.specs.Layout.{bytesOf}
+use Rattle.record.specs.Reading.{readOf}
+use Rattle.record.specs.AtStation.{receiveBytesOf}
+use Rattle.record.proofs.ReadBack.{read-back}
+use Rattle.table.specs.declared.pool.Waiting.{Waiting}
+use Rattle.table.specs.declared.pool.Waiting.the-variants.{One}
+use Rattle.table.specs.declared.planning.Step.the-variants.{Send, Deliver}
+use Rattle.table.specs.declared.table.Table.{Table}
+use Rattle.table.specs.Table.{mostPlaces, stationAt, waitingAt, lowestEmpty}
+use Rattle.table.specs.Sound.{tableSound}
+use Rattle.table.specs.Steps.{stepOf}
+use Rattle.table.proofs.Tables.{table-parts, waits}
+use Rattle.table.proofs.Same.{SameAt, SentAt, deliver-same, send-same}
+
+pub record-received : (s : Station) (m : Message) → messageSound m ≡ true → receiveBytesOf s (bytesOf m) ≡ receiveOf s m
+unfolding receiveBytesOf
+record-received s m e = rw (read-back m e)
+
+-- the record of the message that waits at a place, received by the station that it is for
+pub record-delivered : (t : Table) → tableSound t ≡ true → length (t .stations) ≡ mostStations → (p : ℕ) (m : Message) → p < mostPlaces → waitingAt t p ≡ One m
+    → SameAt t (m .to) (receiveBytesOf (stationAt t (m .to)) (bytesOf m)) (stepOf t (Deliver p))
+record-delivered t sound full p m h e =
+    let place = rw e at (table-parts t sound .places p h) in
+    rw (record-received (stationAt t (m .to)) m (waits m (t .count) place .sound)) (deliver-same t sound full p m h e)
+
+-- what a station writes for another, and what its send places
+pub record-sent : (t : Table) (from to : ℕ) → tableSound t ≡ true → length (t .pool) ≡ mostPlaces → from < t .count → showAnswer (stationAt t from) to ≡ 0
+    → lowestEmpty (t .pool) < mostPlaces → (m : Message) → waitingAt (stepOf t (Send from to) .table) (lowestEmpty (t .pool)) ≡ One m
+    → bytesOf (messageFor (stationAt t from) to) ≡ bytesOf m
+record-sent t from to sound full h a free m e =
+    let w = send-same t from to sound full h a free .waiting in
+    let same : messageFor (stationAt t from) to ≡ m = cc in
+    ap bytesOf same
