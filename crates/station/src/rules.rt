@@ -80,6 +80,7 @@ pub(crate) fn rule1_fill(x: Side, m: Message) -> Ruled
 
 pub(crate) fn rule2_drop_slot(x: Side, m: Message) -> Ruled
     ensures { λ r. ⌜ r ≡ dropSlot x m ⌝ }
+    ensures { λ r. ⌜ r .side .value ≡ x .value ⌝ }
 {
     let held = x.slot;
     let HeldSlot::OneSlot(slot) = held else {

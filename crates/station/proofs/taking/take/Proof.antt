@@ -1,7 +1,7 @@
 use mathlib.Core.Path.{ap, _∙_}
 use native.Mathlib.Omega.{arith}
 use Rattle.station.specs.declared.rules.Ruled.{Ruled}
-use Rattle.station.proofs.InOrder.{drop-slot-value, taken}
+use Rattle.station.proofs.InOrder.{taken}
 use borrow.Author.Needs.{needs}
 use Rattle.station.proofs.taking.take.Statement.{statement}
 use Rattle.station.proofs.taking.take.Tie as tie
@@ -14,12 +14,11 @@ rule2-drop-slot-requires c κs = search needs
 
 rule3-open-slot-requires : tie.Need-rule3-open-slot-requires
 rule3-open-slot-requires c κs =
-    let a = c .before .before .before .before .args in
     let one = c .before .before .before .rule1-fill in
-    let value = ap (λ (r : Ruled). r .side .value) (c .before .rule2-drop-slot .ensures) ∙ drop-slot-value (one .result .side) (a .m) in
+    let value = c .before .rule2-drop-slot .ensures .1 in
     let room = ap (λ (r : Ruled). r .side .value) (one .ensures) in
     let pre = c .before .before .before .before .pre in
-    (omega (arith, value, room, pre .room), pre .shown)
+    (omega (arith, value, room, pre .room, pre .value), pre .shown)
 
 rule4-drop-token-requires : tie.Need-rule4-drop-token-requires
 rule4-drop-token-requires c κs = search needs
@@ -35,7 +34,7 @@ returns c =
     let three = c .before .before .before .before .before .rule3-open-slot in
     let four = c .before .before .before .rule4-drop-token in
     let five = c .before .rule5-make-token in
-    taken (a .x) (a .m) (one .result) (two .result) (three .result) (four .result) (five .result) (one .ensures) (two .ensures) (three .ensures) (four .ensures)
+    taken (a .x) (a .m) (one .result) (two .result) (three .result) (four .result) (five .result) (one .ensures) (two .ensures .0) (three .ensures) (four .ensures)
     (five .ensures)
 
 pub take-spec : {M : Type 1} → statement M
