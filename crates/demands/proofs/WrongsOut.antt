@@ -8,7 +8,7 @@ use Rattle.table.specs.Table.{firstFrom}
 use Rattle.table.specs.Sound.{tableSound}
 use Rattle.table.specs.Fresh.{seatsTo, freshOf}
 use Rattle.table.specs.Steps.{planOf, stepOf}
-use Rattle.table.specs.Way.{sumBelow}
+use Rattle.handshake.specs.Sums.{sumBelow}
 use Rattle.demands.specs.Wrong.{ruledOut}
 use Rattle.script.specs.Words.{numeralOf}
 use Rattle.script.specs.Lines.{lineOf, stationsOf}

@@ -5,3 +5,5 @@ pub mod Cuts
 pub mod Wrong
 pub mod WrongTables
 pub mod WrongScripts
+pub mod Runs
+pub mod Demand3

@@ -12,7 +12,8 @@ use Rattle.table.specs.declared.table.Table.{Table}
 use Rattle.table.specs.declared.way.Summed.{Summed}
 use Rattle.table.specs.Table.{stationAt}
 use Rattle.table.specs.Sound.{tableSound}
-use Rattle.table.specs.Way.{asked, atStations, between, onTheWay, sumBelow, wayFrom}
+use Rattle.handshake.specs.Sums.{sumBelow}
+use Rattle.table.specs.Way.{asked, atStations, between, onTheWay, wayFrom}
 use Rattle.table.proofs.Tables.{table-parts}
 use Rattle.table.proofs.Sums.{between-small, station-sound}
 use Rattle.script.specs.Decimal.{totalLine, wayLine}

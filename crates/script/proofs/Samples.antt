@@ -6,7 +6,7 @@ use Rattle.station.specs.Sound.{stationSound}
 use Rattle.table.specs.Sound.{tableSound}
 use Rattle.table.specs.Fresh.{freshOf, seatsTo}
 use Rattle.table.specs.Steps.{planOf, stepOf}
-use Rattle.table.specs.Way.{sumBelow}
+use Rattle.handshake.specs.Sums.{sumBelow}
 use Rattle.script.specs.Decimal.{digitsBy, decimal, says}
 use Rattle.script.specs.Words.{numeralOf}
 use Rattle.script.specs.Lines.{lineOf, stationsOf}

@@ -16,7 +16,8 @@ use Rattle.station.proofs.Parts.{SoundStation, station-parts, token-fits}
 use Rattle.table.specs.declared.table.Table.{Table}
 use Rattle.table.specs.Table.{stationAt}
 use Rattle.table.specs.Sound.{tableSound}
-use Rattle.table.specs.Way.{sumBelow, travels, between}
+use Rattle.handshake.specs.Sums.{sumBelow}
+use Rattle.table.specs.Way.{travels, between}
 use Rattle.table.proofs.Tables.{table-parts, seated}
 
 pub sum-none : (f : ℕ → ℕ) → sumBelow f 0 ≡ 0

@@ -1,6 +1,7 @@
 -- The passes at the stations of a table, and the passes on the way.
-use Prim.Native.Nat.{ℕ, zero, suc, _+_}
+use Prim.Native.Nat.{ℕ}
 use mathlib.Core.Bool.{cond}
+use Rattle.handshake.specs.Sums.{sumBelow}
 use Rattle.station.specs.declared.held.HeldSlot.{HeldSlot}
 use Rattle.station.specs.declared.held.HeldSlot.the-variants.{NoSlot, OneSlot}
 use Rattle.station.specs.declared.held.HeldToken.{HeldToken}
@@ -12,10 +13,6 @@ use Rattle.table.specs.declared.table.Table.{Table}
 use Rattle.table.specs.declared.way.Summed.{Summed}
 use Rattle.table.specs.Table.{stationAt}
 use Rattle.table.specs.Sound.{tableSound}
-
-unfoldable pub sumBelow : (ℕ → ℕ) → ℕ → ℕ
-sumBelow f zero = 0
-sumBelow f (suc n) = sumBelow f n + f n
 
 -- a token is on the way while its destination has a slot for its maker with both clocks the same
 abbrev pub travels : HeldToken → HeldSlot → ℕ

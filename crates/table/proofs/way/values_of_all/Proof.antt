@@ -5,7 +5,7 @@ use Prim.Native.Nat.{ℕ, _≤_, _<_, _-_, _*_}
 use Rattle.station.specs.Limits.{mostValue}
 use Rattle.table.specs.declared.table.Table.{Table}
 use Rattle.table.specs.Table.{stationAt}
-use Rattle.table.specs.Way.{sumBelow}
+use Rattle.handshake.specs.Sums.{sumBelow}
 use Rattle.table.proofs.Tables.{table-parts}
 use Rattle.table.proofs.Sums.{sum-none, sum-more, station-sound}
 use Rattle.table.proofs.way.values_of_all.Statement.{statement}

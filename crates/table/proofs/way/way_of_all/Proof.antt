@@ -3,7 +3,8 @@ use native.Mathlib.Omega.{arith}
 use borrow.Author.Needs.{needs}
 use Prim.Native.Nat.{_≤_, _-_, _*_}
 use Rattle.station.specs.Limits.{mostStations, mostValue}
-use Rattle.table.specs.Way.{sumBelow, wayFrom}
+use Rattle.handshake.specs.Sums.{sumBelow}
+use Rattle.table.specs.Way.{wayFrom}
 use Rattle.table.proofs.Tables.{table-parts}
 use Rattle.table.proofs.Sums.{sum-none, sum-more}
 use Rattle.table.proofs.way.way_of_all.Statement.{statement}
