@@ -1,2 +1,9 @@
 pub mod Keeps
 pub mod Rules
+pub mod Tests
+pub mod Sums
+pub mod Histories
+pub mod Webs
+pub mod Ends
+pub mod Weighs
+pub mod Passages

@@ -30,6 +30,10 @@ at [] i = none
 at (x ∷ xs) zero = some x
 at (x ∷ xs) (suc i) = at xs i
 
+-- somewhere in a list
+abbrev pub In : {A : Type 0} → A → List A → Type 0
+In x H = (i : ℕ) × (at H i ≡ some x)
+
 -- they belong together if maker, destination and both clocks agree
 pub record Belong {P : Type 0} (x y : Transfer P) : Type 0 where
   pub maker : x .maker ≡ y .maker

@@ -1,14 +1,14 @@
 -- All channels of a table at once, the messages that wait between them, and the history: what holds at all times.
 use Prim.Native.Nat.{ℕ, _<_}
 use mathlib.Core.Path.{_≡_}
-use mathlib.Core.Bool.{Bool, cond, _&&_}
+use mathlib.Core.Bool.{cond, _&&_}
 use mathlib.Core.List.{List}
 use mathlib.Core.Option.{Option, none, some}
 use lib.Dec.{eqb}
 use Rattle.handshake.specs.Channel.{Held, Channel, Event, quiet}
 use Rattle.handshake.specs.Turn.{Turn}
 use Rattle.handshake.specs.Clauses.{Standing, GiverShows, ReceiverShows, Spent}
-use Rattle.handshake.specs.History.{Transfer, transfer, Entry, departure, arrival, at, Pairing}
+use Rattle.handshake.specs.History.{transfer, Entry, departure, arrival, In, Pairing}
 use Rattle.handshake.specs.Sums.{sumPairs}
 
 -- the channel from each giver to each receiver
@@ -28,10 +28,6 @@ pub record Letter (P Q : Type 0) : Type 0 where
 pub record Shows {P Q : Type 0} (W : Web P Q) (m : Letter P Q) : Type 0 where
   pub gives : GiverShows (W (m .from) (m .to)) (m .source) (m .token)
   pub asks : ReceiverShows (W (m .to) (m .from)) (m .destination) (m .slot)
-
--- somewhere in a history
-abbrev pub In : {P : Type 0} → Entry P → List (Entry P) → Type 0
-In e H = (i : ℕ) × (at H i ≡ some e)
 
 pub record Holds {P Q : Type 0} (W : Web P Q) (Waits : Letter P Q → Type 0) (H : List (Entry P)) : Type 0 where
   pub standing : (g r : ℕ) → Standing (W g r)

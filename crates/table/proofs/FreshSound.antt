@@ -21,7 +21,7 @@ use Rattle.table.specs.Sound.{seatSound, placeSound, tableSound}
 use Rattle.table.specs.Fresh.{seatsTo, blankTable, freshOf}
 use Rattle.table.proofs.Tables.{table-whole}
 
-length-seats : (count k : ℕ) → length (seatsTo count k) ≡ mostStations
+pub length-seats : (count k : ℕ) → length (seatsTo count k) ≡ mostStations
 unfolding seatsTo
 length-seats count zero = refl
 length-seats count (suc k) = length-set (seatsTo count k) k (blank k count) ∙ length-seats count k
@@ -38,7 +38,7 @@ next-seat count n k d most before (no other) h =
     below-or-last false e = let l = ltb-false k n e in absurd (other (omega arith))
 
 -- below the bound each station is fresh, with its own number
-seat-at : (count n k : ℕ) (d : Station) → k < n → n ≤ mostStations → getD (seatsTo count n) k d ≡ blank k count
+pub seat-at : (count n k : ℕ) (d : Station) → k < n → n ≤ mostStations → getD (seatsTo count n) k d ≡ blank k count
 unfolding seatsTo
 seat-at count zero k d h most = absurd (omega arith)
 seat-at count (suc n) k d h most =

@@ -25,7 +25,7 @@ use Rattle.table.proofs.Tables.{Seated, SoundTable, table-parts, table-
 use Rattle.table.proofs.Puts.{seat-of, moved, receive-seated, show-waits, place-whole, put-station, put-place}
 
 -- an answer, or the next one, is 0 only where the first is
-or-first : (n later : ℕ) → orElse n later ≡ 0 → n ≡ 0
+pub or-first : (n later : ℕ) → orElse n later ≡ 0 → n ≡ 0
 or-first zero later e = refl
 or-first (suc n) later e = e
 

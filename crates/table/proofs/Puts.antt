@@ -37,7 +37,7 @@ pub receive-seated : {s : Station} {k n : ℕ} → Seated s k n → (m : Message
 receive-seated {s} w m = let same = receive-seat s m in moved w (receive-keeps s m (w .sound)) (same .0, same .1)
 
 -- a message that is shown is the station's own, and may wait in its table
-show-done : (n : ℕ) (m : Message) → showing n m .answer ≡ 0 → (n ≡ 0) × (showing n m .message ≡ m)
+pub show-done : (n : ℕ) (m : Message) → showing n m .answer ≡ 0 → (n ≡ 0) × (showing n m .message ≡ m)
 show-done zero m e = (refl, refl)
 show-done (suc n) m e = absurd (omega arith)
 

@@ -1,0 +1,173 @@
+-- What a step can change in a table that a run reached: nothing, a station's stock, a place, or what a receiver has taken. Assumes nothing.
+use Prim.Native.Nat.{ℕ, _+_, _<_, _≤_, min}
+use mathlib.Core.Path.{_≡_, refl, sym, _∙_, ap, subst}
+use mathlib.Core.Bool.{_&&_}
+use mathlib.Core.List.{List, []}
+use mathlib.Core.Logic.{_⊎_, inl, inr}
+use native.Mathlib.Omega.{arith}
+use native.Mathlib.Nat.{add-zero}
+use lib.Dec.{eqb, ltb}
+use lib.ListN.{length}
+use Rattle.handshake.specs.History.{Entry, departed, arrived}
+use Rattle.handshake.specs.Web.{Web, Letter, Present, withEnd, onAllWays}
+use Rattle.handshake.proofs.Ends.{end-same}
+use Rattle.handshake.proofs.Histories.{departed-both, arrived-both}
+use Rattle.handshake.proofs.Passages.{Passage, rest}
+use Rattle.handshake.proofs.Sums.{sum-term}
+use Rattle.station.specs.Limits.{mostValue, lastClock}
+use Rattle.station.specs.Rules.{agree, fillBy, makeTokenBy, fill, dropSlot, openSlot, dropToken, makeToken}
+use Rattle.station.specs.Side.{sideFor, putSide}
+use Rattle.station.specs.Steps.{putStock}
+use Rattle.station.specs.Taking.{takeOf}
+use Rattle.station.specs.declared.held.HeldSlot.{HeldSlot}
+use Rattle.station.specs.declared.held.HeldSlot.the-variants.{NoSlot, OneSlot}
+use Rattle.station.specs.declared.held.HeldToken.{HeldToken}
+use Rattle.station.specs.declared.held.HeldToken.the-variants.{NoToken, OneToken}
+use Rattle.station.specs.declared.message.Message.{Message}
+use Rattle.station.specs.declared.rules.Ruled.{Ruled}
+use Rattle.station.specs.declared.side.Side.{Side}
+use Rattle.station.specs.declared.station.Station.{Station}
+use Rattle.station.proofs.InOrder.{chosen}
+use Rattle.station.proofs.Stores.{stored}
+use Rattle.table.specs.Table.{stationAt, waitingAt, putStation, putPlace}
+use Rattle.table.specs.Way.{onTheWay, atStations}
+use Rattle.table.specs.declared.pool.Place.{Place}
+use Rattle.table.specs.declared.pool.Waiting.{Waiting}
+use Rattle.table.specs.declared.pool.Waiting.the-variants.{One}
+use Rattle.table.specs.declared.table.Table.{Table}
+use Rattle.table.proofs.Tables.{table-parts}
+use Rattle.demands.specs.Demand3.{amount}
+use Rattle.demands.specs.Runs.{arrivalBy, departureBy, entriesBy}
+use Rattle.demands.proofs.Seen.{webOf, endOf, letterOf}
+use Rattle.demands.proofs.Full.{side-full, stock-full, station-full, place-full}
+use Rattle.demands.proofs.LeftAlone.{filled, taken-value}
+use Rattle.demands.proofs.Put.{side-put, stock-put}
+use Rattle.demands.proofs.Delivered.{Stage, fill-stage, taken-stage}
+use Rattle.demands.proofs.Reached.{waitsIn, Reached, Goes, way-seen, total-put, enough-room}
+
+-- what is reported is what the entries weigh
+module _ (m : Message) where
+  abbrev Lands : HeldToken → Ruled → Type 0
+  Lands h r = (arrived amount (arrivalBy m h (r .acted) (r .quantity)) ≡ r .quantity) × (departed amount (arrivalBy m h (r .acted) (r .quantity)) ≡ 0)
+
+  abbrev Leaves : HeldSlot → Ruled → Type 0
+  Leaves h r = (departed amount (departureBy m h (r .acted) (r .quantity)) ≡ r .quantity) × (arrived amount (departureBy m h (r .acted) (r .quantity)) ≡ 0)
+
+  lands : (x : Side) (h : HeldToken) (l : HeldSlot) → Lands h (fillBy x h l)
+  unfolding departed arrived
+  lands x NoToken l = (refl, refl)
+  lands x (OneToken t) NoSlot = (refl, refl)
+  lands x (OneToken t) (OneSlot l) = chosen (Lands (OneToken t)) (agree t l) _ _ (λ e. (add-zero (t .quantity), refl)) (λ e. (refl, refl))
+
+  leaves : (x : Side) (h : HeldSlot) → Leaves h (makeTokenBy x h)
+  unfolding departed arrived
+  leaves x NoSlot = (refl, refl)
+  leaves x (OneSlot l) =
+      chosen (Leaves (OneSlot l)) (eqb (l .source .0) (x .source .0) && ltb (x .source .0) lastClock) _ _ (λ e. (add-zero (min (x .value) (l .quantity)), refl))
+      (λ e. (refl, refl))
+
+  taken-weighs : (x : Side) → let r = takeOf x m in let K = entriesBy (One m) (r .result) (r .report) in
+      (arrived amount K ≡ r .result) × (departed amount K ≡ r .report .made)
+  unfolding takeOf
+  taken-weighs x =
+      let one = fill x m in
+      let four = dropToken (openSlot (dropSlot (one .side) m .side) m .side) m in
+      let five = makeToken (four .side) m in
+      let came = arrivalBy m (m .token) (one .acted) (one .quantity) in
+      let went = departureBy m (m .slot) (five .acted) (five .quantity) in
+      let a = lands x (m .token) (x .slot) in
+      let d = leaves (four .side) (m .slot) in (
+        omega (arith, arrived-both amount came went, a .0, d .1),
+        omega (arith, departed-both amount came went, a .1, d .0),
+      )
+
+module _ {t : Table} {H : List (Entry ℕ)} {plus minus : ℕ} (r : Reached t H plus minus) where
+  pub nothing-goes : Goes t t H [] 0 0
+  unfolding departed arrived
+  nothing-goes =
+      record {
+        count = refl;
+        full = r .full;
+        passage = rest refl (r .holds);
+        waits = λ l w. inl w;
+        values = refl;
+        intakes = omega arith;
+      }
+
+  here : (k : ℕ) → k < t .count → k < length (t .stations)
+  here k h = omega (arith, r .full .stations, table-parts t (r .sound) .most)
+
+  -- a station's stock: p passes come in, or q go out
+  pub stock-goes : (k value intake p q : ℕ) → k < t .count → value + q ≡ stationAt t k .value + p → intake ≡ stationAt t k .intake + p
+      → Goes t (putStation t k (putStock (stationAt t k) value intake)) H [] p q
+  unfolding departed arrived
+  stock-goes k value intake p q h v i =
+      let s = putStock (stationAt t k) value intake in
+      record {
+        count = refl;
+        full = station-full k (r .full) (stock-full value intake (r .full .each k h));
+        passage = rest (λ j g n. sym (stock-put t k value intake g n) j) (r .holds);
+        waits = λ l w. inl w;
+        values = omega (arith, total-put (λ x. x .value) t k s h (here k h));
+        intakes = omega (arith, total-put (λ x. x .intake) t k s h (here k h));
+      }
+
+  -- a place: a message that shows its sender as it is now, or nothing
+  pub place-goes : (p : ℕ) (v : Waiting) → ((m : Message) → v ≡ One m → Present (webOf t) (letterOf m)) → Goes t (putPlace t p v) H [] 0 0
+  unfolding departed arrived
+  place-goes p v sent =
+      record {
+        count = refl;
+        full = place-full p v (r .full);
+        passage = rest refl (r .holds);
+        waits = λ l w. waits l (w .0) (w .1) (w .2) (w .3);
+        values = refl;
+        intakes = omega arith;
+      }
+    where
+      waits : (l : Letter ℕ ℕ) (n : ℕ) (m : Message) → waitingAt (putPlace t p v) n ≡ One m → letterOf m ≡ l → waitsIn t l ⊎ Present (webOf t) l
+      waits l n m e f =
+          stored (λ (x : Place). x .waiting ≡ One m → waitsIn t l ⊎ Present (webOf t) l) (t .pool) p n _ (λ _ c. inr (subst (Present (webOf t)) f (sent m c)))
+          (λ c. inl (n, m, c, f)) e
+
+  -- a message that waits, taken by the station that it is for
+  module _ (p : ℕ) (m : Message) (waiting : waitingAt t p ≡ One m) (apart : m .from ≡ m .to → ⊥) (from : m .from < t .count) (to : m .to < t .count) where
+    abbrev taker : Station
+    taker = stationAt t (m .to)
+
+    abbrev before : Side
+    before = sideFor taker (m .from)
+
+    start : Stage (webOf t) (webOf t) (waitsIn t) H (t .count) m (p, m, waiting, refl) apart from to before []
+    start =
+        rest (λ j g n. sym (end-same (webOf t) (m .to) (m .from) (endOf before) (λ k. refl) (λ k. refl) refl refl g n) j) (r .holds)
+
+    -- there is room for what is filled
+    pub fill-fits : fill before m .side .value ≤ mostValue
+    unfolding departed arrived
+    fill-fits =
+        let z = fill-stage (webOf t) (webOf t) (waitsIn t) H (t .count) m (p, m, waiting, refl) apart from to before start .weighs in
+        let a = lands m before (m .token) (before .slot) in
+        let v = sum-term (λ k. stationAt t k .value) (t .count) (m .to) to in
+        omega (arith, filled before m .1, way-seen t, enough-room r, a .0, a .1)
+
+    pub taken-goes : let x = takeOf before m in
+        Goes t (putStation t (m .to) (putSide taker (m .from) (x .side))) H (entriesBy (One m) (x .result) (x .report)) 0 0
+    taken-goes =
+        let x = takeOf before m in
+        let s = putSide taker (m .from) (x .side) in
+        let lengths = r .full .each (m .to) to in
+        let most = table-parts t (r .sound) .most in
+        let weighs = taken-weighs m before in
+        record {
+          count = refl;
+          full = station-full (m .to) (r .full) (side-full (m .from) (x .side) lengths);
+          passage =
+              subst (λ (X : Web ℕ ℕ). Passage amount (t .count) (webOf t) X (waitsIn t) H (entriesBy (One m) (x .result) (x .report)))
+              (λ j g n.
+              sym (side-put t (m .to) (m .from) (x .side) (here (m .to) to) (omega (arith, lengths .slots)) (omega (arith, lengths .tokens)) g n) j)
+              (taken-stage (webOf t) (webOf t) (waitsIn t) H (t .count) m (p, m, waiting, refl) apart from to before start);
+          waits = λ l w. inl w;
+          values = omega (arith, total-put (λ y. y .value) t (m .to) s to (here (m .to) to), taken-value before m, weighs .0, weighs .1);
+          intakes = omega (arith, total-put (λ y. y .intake) t (m .to) s to (here (m .to) to));
+        }
