@@ -1,15 +1,5 @@
 pub mod CasesHold
+pub mod Demand1
 pub mod Settled
 pub mod WrongsOut
 pub mod Shared
-pub mod Seen
-pub mod Ruled
-pub mod LeftAlone
-pub mod Put
-pub mod Full
-pub mod Delivered
-pub mod Reached
-pub mod Changes
-pub mod Goes
-pub mod FreshReached
-pub mod Demand3

@@ -5,5 +5,5 @@ pub mod Cuts
 pub mod Wrong
 pub mod WrongTables
 pub mod WrongScripts
-pub mod Runs
-pub mod Demand3
+pub mod Demand1
+pub mod Settled

@@ -97,21 +97,29 @@ module _ {P Q : Type 0} where
             omega (arith, h .token-destination t (o .stored), o .destination)
 
   module _ (c : Channel P Q) {clock : ℕ} {slot : Option (Held Q)} (m : ReceiverShows c clock slot) where
-    -- 4. Drop token, where no slot is shown and the shown clock has passed it
-    pub drops-token : (t : Held P) → c .token ≡ some t → slot ≡ none → t .destination < clock → Turn c (withToken c (c .source) none) quiet
-    drops-token t p n h = record {
-      source-rises = omega arith;
-      destination-rises = omega arith;
-      token-from = λ u e. absurd (not-both refl e);
-      slot-from = λ l e. inl e;
-      slot-goes = λ l e. inl e;
-      brings = record { still = λ u o. absurd (none-on-way u o); nothing-new = λ u o. absurd (not-both refl (o .stored)) };
-    }
+    -- 4. Drop token, where what is shown tells that no slot waits for it any more: no slot, and a clock that has passed it, or a slot that is newer than it
+    pub drops-token : (t : Held P) → c .token ≡ some t
+        → ((slot ≡ none) × (t .destination < clock)) ⊎ ((k : Held Q) × (slot ≡ some k) × (t .destination < k .destination))
+        → Turn c (withToken c (c .source) none) quiet
+    drops-token t p past =
+        record {
+          source-rises = omega arith;
+          destination-rises = omega arith;
+          token-from = λ u e. absurd (not-both refl e);
+          slot-from = λ l e. inl e;
+          slot-goes = λ l e. inl e;
+          brings = record { still = λ u o. absurd (none-on-way u o); nothing-new = λ u o. absurd (not-both refl (o .stored)) };
+        }
       where
+        newer : (l : Held Q) → c .slot ≡ some l → ((slot ≡ none) × (t .destination < clock)) ⊎ ((k : Held Q) × (slot ≡ some k) × (t .destination < k .destination))
+            → t .destination < l .destination
+        newer l q (inl x) = omega (arith, m .none-shown-newer l q (x .0), x .1)
+        newer l q (inr x) = omega (arith, m .one-shown-newer l (x .0) q (x .1), x .2)
+
         none-on-way : (u : Held P) → OnTheWay c u → ⊥
         none-on-way u o =
             let e = ap (λ (x : Held P). x .destination) (same-one p (o .stored)) in
-            omega (arith, m .none-shown-newer (o .slot) (o .stands) n, o .destination)
+            omega (arith, newer (o .slot) (o .stands) past, o .destination)
 
     -- 5. Make token, for a shown slot with the giver's own clock, which advances
     pub makes-token : Standing c → (t : Held P) (k : Held Q) {next : ℕ} → slot ≡ some k → k .source ≡ c .source → c .source < next → t .source ≡ k .source

@@ -42,10 +42,10 @@ use Rattle.table.proofs.Kept.{or-first}
 use Rattle.table.proofs.Puts.{seat-of, show-done}
 use Rattle.table.proofs.Sums.{station-sound}
 use Rattle.table.proofs.Tables.{SoundTable, table-parts, waits}
-use Rattle.demands.specs.Runs.{messageIn, addedBy, drawnBy, arrivalBy, departureBy, entriesBy}
-use Rattle.demands.proofs.Seen.{webOf, letterOf}
-use Rattle.demands.proofs.Reached.{Reached, Goes}
-use Rattle.demands.proofs.Changes.{nothing-goes, stock-goes, place-goes, fill-fits, taken-goes}
+use Rattle.runs.specs.Runs.{messageIn, addedBy, drawnBy, arrivalBy, departureBy, entriesBy}
+use Rattle.runs.proofs.Seen.{webOf, letterOf}
+use Rattle.runs.proofs.Reached.{Reached, Goes}
+use Rattle.runs.proofs.Changes.{nothing-goes, stock-goes, place-goes, fill-fits, taken-goes}
 
 -- an answer that is neither 1 nor 10
 abbrev pub Plain : ℕ → Type 0

@@ -14,7 +14,7 @@ use Rattle.station.specs.declared.side.Side.{Side}
 use Rattle.station.specs.declared.station.Station.{Station}
 use Rattle.table.specs.Table.{stationAt}
 use Rattle.table.specs.declared.table.Table.{Table}
-use Rattle.demands.specs.Runs.{amounting}
+use Rattle.runs.specs.Runs.{amounting}
 
 abbrev pub slotSeen : HeldSlot → Option (Held ℕ)
 slotSeen NoSlot = none

@@ -27,9 +27,9 @@ use Rattle.table.specs.declared.pool.Place.{Place}
 use Rattle.table.specs.declared.pool.Waiting.the-variants.{Empty, One}
 use Rattle.table.proofs.FreshSound.{length-seats, seat-at, fresh-table-sound}
 use Rattle.table.proofs.Tables.{table-parts}
-use Rattle.demands.proofs.Full.{FullStation}
-use Rattle.demands.proofs.Reached.{Reached}
-use Rattle.demands.proofs.Seen.{slotSeen, tokenSeen}
+use Rattle.runs.proofs.Full.{FullStation}
+use Rattle.runs.proofs.Reached.{Reached}
+use Rattle.runs.proofs.Seen.{slotSeen, tokenSeen}
 
 -- what is everywhere the same
 all-same : {A : Type 0} (n i : ℕ) (a : A) → getD (replicate n a) i a ≡ a

@@ -24,13 +24,13 @@ use Rattle.table.specs.Table.{stationAt}
 use Rattle.table.specs.declared.planning.Step.{Step}
 use Rattle.table.specs.declared.table.Table.{Table}
 use Rattle.table.proofs.Kept.{step-keeps}
-use Rattle.demands.specs.Demand3.{Demand3, waitsFor}
-use Rattle.demands.specs.Runs.{Line, lineOf, logOf, tableAfter, addedBy, drawnBy, added, drawn, entriesBy, historyOf, amounting}
-use Rattle.demands.proofs.FreshReached.{fresh-reached}
-use Rattle.demands.proofs.Goes.{Plain, plan-goes}
-use Rattle.demands.proofs.Reached.{Reached, Goes, goes-on}
-use Rattle.demands.proofs.Ruled.{misfit}
-use Rattle.demands.proofs.Seen.{tokenSeen, webOf}
+use Rattle.runs.specs.Demand3.{Demand3, waitsFor}
+use Rattle.runs.specs.Runs.{Line, lineOf, logOf, tableAfter, addedBy, drawnBy, added, drawn, entriesBy, historyOf, amounting}
+use Rattle.runs.proofs.FreshReached.{fresh-reached}
+use Rattle.runs.proofs.Goes.{Plain, plan-goes}
+use Rattle.runs.proofs.Reached.{Reached, Goes, goes-on}
+use Rattle.runs.proofs.Ruled.{misfit}
+use Rattle.runs.proofs.Seen.{tokenSeen, webOf}
 
 -- one step
 module _ {t : Table} {H : List (Entry ℕ)} {plus minus : ℕ} (r : Reached t H plus minus) (step : Step) where

@@ -21,7 +21,7 @@ use Rattle.station.specs.declared.station.Station.{Station}
 use Rattle.station.proofs.Stores.{stored}
 use Rattle.table.specs.Table.{stationAt, putStation}
 use Rattle.table.specs.declared.table.Table.{Table}
-use Rattle.demands.proofs.Seen.{slotSeen, tokenSeen, channelOf, webOf, endOf}
+use Rattle.runs.proofs.Seen.{slotSeen, tokenSeen, channelOf, webOf, endOf}
 
 -- after a store at k there stands at j the stored one, or the one that was there
 pub at-put : {A : Type 0} (xs : List A) (k j : ℕ) (v d : A) → k < length xs → getD (set xs k v) j d ≡ cond (eqb j k) v (getD xs j d)

@@ -28,10 +28,10 @@ use Rattle.table.specs.declared.pool.Waiting.the-variants.{One}
 use Rattle.table.specs.declared.table.Table.{Table}
 use Rattle.table.proofs.Sums.{station-sound}
 use Rattle.table.proofs.Tables.{table-parts}
-use Rattle.demands.specs.Demand3.{amount}
-use Rattle.demands.proofs.Seen.{slotSeen, tokenSeen, webOf, letterOf}
-use Rattle.demands.proofs.Full.{Full}
-use Rattle.demands.proofs.Put.{seat-here, seat-else}
+use Rattle.runs.specs.Demand3.{amount}
+use Rattle.runs.proofs.Seen.{slotSeen, tokenSeen, webOf, letterOf}
+use Rattle.runs.proofs.Full.{Full}
+use Rattle.runs.proofs.Put.{seat-here, seat-else}
 
 -- the letters of the messages that wait in a table
 abbrev pub waitsIn : Table → Letter ℕ ℕ → Type 0

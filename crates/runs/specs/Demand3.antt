@@ -18,7 +18,7 @@ use Rattle.table.specs.Table.{stationAt}
 use Rattle.table.specs.Way.{atStations, onTheWay}
 use Rattle.table.specs.declared.planning.Step.{Step}
 use Rattle.table.specs.declared.table.Table.{Table}
-use Rattle.demands.specs.Runs.{Build, Line, logOf, tableAfter, added, drawn, historyOf, amounting}
+use Rattle.runs.specs.Runs.{Build, Line, logOf, tableAfter, added, drawn, historyOf, amounting}
 
 -- every token weighs what it carries
 abbrev pub amount : ℕ → ℕ

@@ -2,7 +2,8 @@
 use Prim.Native.Nat.{ℕ, zero, suc, _+_, _≤_, _<_, min}
 use mathlib.Core.Path.{_≡_, refl, sym, ap, _∙_}
 use mathlib.Core.Bool.{Bool, true, false, cond, _&&_, true≢false}
-use mathlib.Core.Option.{Option, none, some}
+use mathlib.Core.Logic.{inl}
+use mathlib.Core.Option.{Option, some}
 use native.Mathlib.Omega.{arith}
 use lib.Dec.{eqb, ltb, leb}
 use borrow.Author.Tests.{eqb-true, ltb-true, eq-eqb}
@@ -26,8 +27,8 @@ use Rattle.station.specs.declared.held.Slot.{Slot}
 use Rattle.station.specs.declared.held.Token.{Token}
 use Rattle.station.specs.declared.message.Message.{Message}
 use Rattle.station.specs.declared.side.Side.{Side}
-use Rattle.demands.specs.Demand3.{waitsFor}
-use Rattle.demands.proofs.Seen.{slotSeen, tokenSeen, inward, outward, arrivesBy, departsBy}
+use Rattle.runs.specs.Demand3.{waitsFor}
+use Rattle.runs.proofs.Seen.{slotSeen, tokenSeen, inward, outward, arrivesBy, departsBy}
 
 -- a token fits a slot that waits for it
 abbrev pub fits : HeldToken → HeldSlot → Bool
@@ -113,7 +114,7 @@ module _ (destination : ℕ) (slot : Option (Held ℕ)) where
     where
       by : (b : Bool) → ltb (t .destination .0) (m .destination .0) ≡ b
           → Turn (outward x destination slot) (outward (cond b (acts 0 (putToken x NoToken)) (restsAt x) .side) destination slot) quiet
-      by true g = drops-token (outward x destination slot) shows _ (ap tokenSeen e) refl (ltb-true _ _ g)
+      by true g = drops-token (outward x destination slot) shows _ (ap tokenSeen e) (inl (refl, ltb-true _ _ g))
       by false g = nothing-out x
 
   pub make-token-turns : (x : Side) (h : HeldSlot) {clock : ℕ} → Standing (outward x destination slot)

@@ -21,11 +21,11 @@ use Rattle.station.specs.declared.held.HeldToken.the-variants.{NoToken, OneToke
 use Rattle.station.specs.declared.message.Message.{Message}
 use Rattle.station.specs.declared.side.Side.{Side}
 use Rattle.table.specs.declared.pool.Waiting.the-variants.{One}
-use Rattle.demands.specs.Runs.{arrivalBy, departureBy, entriesBy}
-use Rattle.demands.specs.Demand3.{amount}
-use Rattle.demands.proofs.Seen.{slotSeen, tokenSeen, endOf, letterOf, inward, outward, arrivesBy, departsBy}
-use Rattle.demands.proofs.Ruled.{fits, fill-turns, fill-leaves, drop-slot-turns, open-slot-turns, drop-token-turns, make-token-turns}
-use Rattle.demands.proofs.LeftAlone.{Takes, Gives, filled, slot-dropped, slot-opened, token-dropped, token-made}
+use Rattle.runs.specs.Runs.{arrivalBy, departureBy, entriesBy}
+use Rattle.runs.specs.Demand3.{amount}
+use Rattle.runs.proofs.Seen.{slotSeen, tokenSeen, endOf, letterOf, inward, outward, arrivesBy, departsBy}
+use Rattle.runs.proofs.Ruled.{fits, fill-turns, fill-leaves, drop-slot-turns, open-slot-turns, drop-token-turns, make-token-turns}
+use Rattle.runs.proofs.LeftAlone.{Takes, Gives, filled, slot-dropped, slot-opened, token-dropped, token-made}
 
 -- what is reported and what the channel sees are the same entries
 arrival-entries : (m : Message) (h : HeldToken) (acted : Bool) (q : ℕ) → entries (m .from) (m .to) (arrivesBy h acted q) ≡ arrivalBy m h acted q

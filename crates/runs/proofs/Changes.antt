@@ -36,14 +36,14 @@ use Rattle.table.specs.declared.pool.Waiting.{Waiting}
 use Rattle.table.specs.declared.pool.Waiting.the-variants.{One}
 use Rattle.table.specs.declared.table.Table.{Table}
 use Rattle.table.proofs.Tables.{table-parts}
-use Rattle.demands.specs.Demand3.{amount}
-use Rattle.demands.specs.Runs.{arrivalBy, departureBy, entriesBy}
-use Rattle.demands.proofs.Seen.{webOf, endOf, letterOf}
-use Rattle.demands.proofs.Full.{side-full, stock-full, station-full, place-full}
-use Rattle.demands.proofs.LeftAlone.{filled, taken-value}
-use Rattle.demands.proofs.Put.{side-put, stock-put}
-use Rattle.demands.proofs.Delivered.{Stage, fill-stage, taken-stage}
-use Rattle.demands.proofs.Reached.{waitsIn, Reached, Goes, way-seen, total-put, enough-room}
+use Rattle.runs.specs.Demand3.{amount}
+use Rattle.runs.specs.Runs.{arrivalBy, departureBy, entriesBy}
+use Rattle.runs.proofs.Seen.{webOf, endOf, letterOf}
+use Rattle.runs.proofs.Full.{side-full, stock-full, station-full, place-full}
+use Rattle.runs.proofs.LeftAlone.{filled, taken-value}
+use Rattle.runs.proofs.Put.{side-put, stock-put}
+use Rattle.runs.proofs.Delivered.{Stage, fill-stage, taken-stage}
+use Rattle.runs.proofs.Reached.{waitsIn, Reached, Goes, way-seen, total-put, enough-room}
 
 -- what is reported is what the entries weigh
 module _ (m : Message) where

@@ -1,0 +1,118 @@
+-- Demand 1, as one list: what a refusal is, for each public function that has an answer. Where the answer is not 0, the result is 0, the report is empty, and
+-- everything lent is as it was; a refused making or reading hands back every number 0 and nothing held. The numbers are the answers that can occur, in their
+-- order. It is stated of the definitions that the promises cite.
+-- Not listed: `count_is_sound`, `station_is_sound`, `message_is_sound`, `clocks_agree`. They are tests, and refuse nothing.
+-- Not listed: `blank_station`, `no_message`, `no_report`. They make what they are told to, and refuse nothing.
+-- Not listed: `fill`. It has no answer: what it prints of a step is the answer and the result of an advance.
+use Prim.Native.Nat.{ℕ, _≤_}
+use mathlib.Core.Path.{_≡_}
+use mathlib.Core.List.{List, _++_}
+use mathlib.Core.Logic.{_≢_}
+use lib.ListN.{length, replicate, take}
+use Rattle.station.specs.declared.message.Message.{Message}
+use Rattle.station.specs.declared.outcome.Outcome.{Outcome}
+use Rattle.station.specs.declared.station.Station.{Station}
+use Rattle.station.specs.Answers.{done}
+use Rattle.station.specs.Limits.{mostStations}
+use Rattle.station.specs.Outcome.{noReport}
+use Rattle.station.specs.Steps.{blank, noMessage, freshOf, addOf, drawOf, showOf, receiveOf, messageFor}
+use Rattle.record.specs.declared.writing.Written.{Written}
+use Rattle.record.specs.Layout.{bytesOf}
+use Rattle.record.specs.Reading.{readOf}
+use Rattle.record.specs.Writing.{Writes, writeAnswer}
+use Rattle.record.specs.AtStation.{writeForAnswer, receiveBytesOf}
+use Rattle.table.specs.declared.lent.Pooled.{Pooled}
+use Rattle.table.specs.declared.planning.Change.the-variants.{Nothing}
+use Rattle.table.specs.declared.planning.Plan.{Plan}
+use Rattle.table.specs.declared.planning.Step.{Step}
+use Rattle.table.specs.declared.pool.Place.{Place}
+use Rattle.table.specs.declared.pool.Waiting.the-variants.{Empty}
+use Rattle.table.specs.declared.stepping.Stepped.{Stepped}
+use Rattle.table.specs.declared.table.Table.{Table}
+use Rattle.table.specs.declared.way.Summed.{Summed}
+use Rattle.table.specs.Table.{mostPlaces}
+use Rattle.table.specs.Fresh.{freshOf as freshTableOf}
+use Rattle.table.specs.Lent.{cleared, sendInTold, sendInPool, loseInTold, loseInPool}
+use Rattle.table.specs.Steps.{planOf, stepOf}
+use Rattle.table.specs.Way.{onTheWay, atStations, asked}
+use Rattle.script.specs.declared.filling.Run.{Run}
+use Rattle.script.specs.Decimal.{says}
+use Rattle.script.specs.Filling.{stepRoom, owed, Started}
+use Rattle.script.specs.Running.{openOf, advanceOf}
+
+-- every number 0 and nothing held: no station, and no table
+abbrev pub noStation : Station
+noStation = blank 0 0
+
+abbrev pub noTable : Table
+noTable = record { count = 0; stations = replicate mostStations noStation; pool = replicate mostPlaces cleared }
+
+-- a refusal that hands back a station: result 0, an empty report, and the station is this one
+abbrev pub RefusedAs : Station → Outcome → Type 0
+RefusedAs s r = r .answer ≢ done → (r .result ≡ 0) × (r .report ≡ noReport) × (r .station ≡ s)
+
+-- a refusal that hands back a table: result 0, an empty report, and the table is this one
+abbrev pub RefusedAsTable : Table → Stepped → Type 0
+RefusedAsTable t r = r .answer ≢ done → (r .result ≡ 0) × (r .report ≡ noReport) × (r .table ≡ t)
+
+-- a refused plan: result 0, an empty report, and no change: every number 0 and nothing held
+abbrev pub RefusedPlan : Plan → Type 0
+RefusedPlan p =
+    p .answer ≢ done → (p .result ≡ 0) × (p .report ≡ noReport) × (p .change ≡ Nothing) × (p .at ≡ 0) × (p .station ≡ noStation) × (p .waiting ≡ Empty)
+
+-- a refused sum is 0
+abbrev pub RefusedSum : Summed → Type 0
+RefusedSum r = r .answer ≢ done → r .result ≡ 0
+
+-- where there is no report: the answer and the result that are told, what has to be there after a refusal, and what is there
+abbrev pub Refused : {A : Type 0} → ℕ → ℕ → A → A → Type 0
+Refused answer result before after = answer ≢ done → (result ≡ 0) × (after ≡ before)
+
+pub record Demand1 : Type 0 where
+  -- 1, 2: a refused making is no station
+  pub fresh : (number count : ℕ) → RefusedAs noStation (freshOf number count)
+  -- 1, 4, 5, 10: the station is as it was
+  pub add : (s : Station) (amount : ℕ) → RefusedAs s (addOf s amount)
+  -- 1, 4: the station is as it was
+  pub draw : (s : Station) (amount : ℕ) → RefusedAs s (drawOf s amount)
+  -- 1, 2, 3: no message is shown
+  pub message-for : (s : Station) (to : ℕ) → let r = showOf s to in r .answer ≢ done → r .message ≡ noMessage
+  -- 1, 9, 2, 11, 10: the station is as it was
+  pub receive : (s : Station) (m : Message) → RefusedAs s (receiveOf s m)
+  -- 9: a refused reading is no message
+  pub read : (bytes : List ℕ) → let r = readOf bytes in Refused (r .answer) (r .result) noMessage (r .message)
+  -- 9, 14: every byte of the buffer is as it was
+  pub write : (m : Message) (before : List ℕ) (r : Written) (after : List ℕ) → Writes (writeAnswer m (length before)) (bytesOf m) before r after
+      → Refused (r .answer) (r .result) before after
+  -- 1, 2, 3, 14: every byte of the buffer is as it was
+  pub write-message : (s : Station) (to : ℕ) (before : List ℕ) (r : Written) (after : List ℕ)
+      → Writes (writeForAnswer s to (length before)) (bytesOf (messageFor s to)) before r after → Refused (r .answer) (r .result) before after
+  -- 1, 9, 2, 11, 10: the station is as it was
+  pub receive-bytes : (s : Station) (bytes : List ℕ) → RefusedAs s (receiveBytesOf s bytes)
+  -- 1: a refused making is no table
+  pub fresh-table : (count : ℕ) → RefusedAsTable noTable (freshTableOf count)
+  -- 1, then those of an add, a draw, a send, a delivery or a loss: nothing is planned
+  pub plan-for : (t : Table) (step : Step) → RefusedPlan (planOf t step)
+  -- the same: the table is as it was
+  pub step : (t : Table) (step : Step) → RefusedAsTable t (stepOf t step)
+  -- 1: the sum is 0
+  pub on-the-way : (t : Table) → RefusedSum (asked t (onTheWay t))
+  -- 1: the sum is 0
+  pub at-stations : (t : Table) → RefusedSum (asked t (atStations t))
+  -- 1, 6: every place of the pool is as it was
+  pub send-in : (pool : List Place) (m : Message) → let r = sendInTold pool in Refused (r .answer) (r .result) pool (sendInPool pool m)
+  -- 1, 7, 8: every place of the pool is as it was
+  pub lose-in : (pool : List Place) (p : ℕ) → let r = loseInTold pool p in Refused (r .answer) (r .result) pool (loseInPool pool p)
+  -- 6: the pool by value, as it was
+  pub send-value : (pool : List Place) (m : Message) (r : Pooled) → r ≡ record { told = sendInTold pool; pool = sendInPool pool m }
+      → Refused (r .told .answer) (r .told .result) pool (r .pool)
+  -- 7, 8: the pool by value, as it was
+  pub lose-value : (pool : List Place) (p : ℕ) (r : Pooled) → r ≡ record { told = loseInTold pool p; pool = loseInPool pool p }
+      → Refused (r .told .answer) (r .told .result) pool (r .pool)
+  -- 13, 12, 1: a refused script opens no table, and its position is 0
+  pub «open» : (script : List ℕ) → let r = openOf script in r .answer ≢ done → (r .table ≡ noTable) × (r .at ≡ 0)
+  -- 12, or those of the step: the table is as it was. The position is past the line all the same
+  pub advance : (script : List ℕ) (t : Table) (at : ℕ) → let r = advanceOf script t at in Refused (r .answer) (r .result) t (r .table)
+  -- it has no answer of its own: all that a refused script prints, now or later, is one line with the answer of its opening and result 0
+  pub start : (script : List ℕ) (run : Run) (bytes : List ℕ) → Started script run bytes → stepRoom ≤ length bytes → let answer = openOf script .answer in
+      answer ≢ done → take (run .size) bytes ++ owed script run ≡ says 0 answer 0

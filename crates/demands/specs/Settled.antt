@@ -1,0 +1,71 @@
+-- What the contracts have to settle, as one list: for each public function, any two outcomes that its promise allows are equal.
+-- Not listed: `start`, `fill`. Their promises leave open how much is put at once, and what the lent buffer holds behind it; why, and what they fix, is told in
+-- docs/DECISIONS.md, "The output is made in pieces".
+use Prim.Native.Nat.{ℕ}
+use mathlib.Core.Path.{_≡_}
+use mathlib.Core.List.{List}
+use lib.ListN.{length}
+use Rattle.station.specs.declared.held.Slot.{Slot}
+use Rattle.station.specs.declared.held.Token.{Token}
+use Rattle.station.specs.declared.message.Message.{Message}
+use Rattle.station.specs.declared.station.Station.{Station}
+use Rattle.station.specs.Outcome.{noReport}
+use Rattle.station.specs.Rules.{agree}
+use Rattle.station.specs.Sound.{countSound, stationSound, messageSound}
+use Rattle.station.specs.Steps.{blank, noMessage, freshOf, addOf, drawOf, showOf, receiveOf, messageFor}
+use Rattle.record.specs.Layout.{bytesOf}
+use Rattle.record.specs.Reading.{readOf}
+use Rattle.record.specs.Writing.{Writes, writeAnswer}
+use Rattle.record.specs.AtStation.{writeForAnswer, receiveBytesOf}
+use Rattle.table.specs.declared.lent.Pooled.{Pooled}
+use Rattle.table.specs.declared.planning.Step.{Step}
+use Rattle.table.specs.declared.pool.Place.{Place}
+use Rattle.table.specs.declared.table.Table.{Table}
+use Rattle.table.specs.Fresh.{freshOf as freshTableOf}
+use Rattle.table.specs.Lent.{sendInTold, sendInPool, loseInTold, loseInPool}
+use Rattle.table.specs.Steps.{planOf, stepOf}
+use Rattle.table.specs.Way.{onTheWay, atStations, asked}
+use Rattle.script.specs.Running.{openOf, advanceOf}
+
+-- any two outcomes that a promise allows are equal
+abbrev pub Settles : {A : Type 0} → (A → Type 0) → Type 0
+Settles {A} promise = (x y : A) → promise x → promise y → x ≡ y
+
+-- where something is lent, the outcome is what is told together with what is then there
+abbrev pub SettlesBoth : {A B : Type 0} → (A → B → Type 0) → Type 0
+SettlesBoth {A} {B} promise = Settles {A = A × B} (λ o. promise (o .0) (o .1))
+
+pub record Settled : Type 0 where
+  -- a station
+  pub fresh : (number count : ℕ) → Settles (λ r. r ≡ freshOf number count)
+  pub add : (s : Station) (amount : ℕ) → Settles (λ r. r ≡ addOf s amount)
+  pub draw : (s : Station) (amount : ℕ) → Settles (λ r. r ≡ drawOf s amount)
+  pub message-for : (s : Station) (to : ℕ) → Settles (λ r. r ≡ showOf s to)
+  pub receive : (s : Station) (m : Message) → Settles (λ r. r ≡ receiveOf s m)
+  -- its tests and constants
+  pub count-is-sound : (count : ℕ) → Settles (λ r. r ≡ countSound count)
+  pub station-is-sound : (s : Station) → Settles (λ r. r ≡ stationSound s)
+  pub message-is-sound : (m : Message) → Settles (λ r. r ≡ messageSound m)
+  pub clocks-agree : (t : Token) (l : Slot) → Settles (λ r. r ≡ agree t l)
+  pub blank-station : (number count : ℕ) → Settles (λ r. r ≡ blank number count)
+  pub no-message : Settles (λ r. r ≡ noMessage)
+  pub no-report : Settles (λ r. r ≡ noReport)
+  -- a record: the buffer that is written to is lent
+  pub read : (bytes : List ℕ) → Settles (λ r. r ≡ readOf bytes)
+  pub write : (m : Message) (before : List ℕ) → SettlesBoth (Writes (writeAnswer m (length before)) (bytesOf m) before)
+  pub write-message : (s : Station) (to : ℕ) (before : List ℕ) → SettlesBoth (Writes (writeForAnswer s to (length before)) (bytesOf (messageFor s to)) before)
+  pub receive-bytes : (s : Station) (bytes : List ℕ) → Settles (λ r. r ≡ receiveBytesOf s bytes)
+  -- a table
+  pub fresh-table : (count : ℕ) → Settles (λ r. r ≡ freshTableOf count)
+  pub plan-for : (t : Table) (step : Step) → Settles (λ r. r ≡ planOf t step)
+  pub step : (t : Table) (step : Step) → Settles (λ r. r ≡ stepOf t step)
+  pub on-the-way : (t : Table) → Settles (λ r. r ≡ asked t (onTheWay t))
+  pub at-stations : (t : Table) → Settles (λ r. r ≡ asked t (atStations t))
+  -- a pool, lent and by value
+  pub send-in : (pool : List Place) (m : Message) → SettlesBoth (λ r after. (r ≡ sendInTold pool) × (after ≡ sendInPool pool m))
+  pub lose-in : (pool : List Place) (p : ℕ) → SettlesBoth (λ r after. (r ≡ loseInTold pool p) × (after ≡ loseInPool pool p))
+  pub send-value : (pool : List Place) (m : Message) → Settles {A = Pooled} (λ r. r ≡ record { told = sendInTold pool; pool = sendInPool pool m })
+  pub lose-value : (pool : List Place) (p : ℕ) → Settles {A = Pooled} (λ r. r ≡ record { told = loseInTold pool p; pool = loseInPool pool p })
+  -- a script
+  pub «open» : (script : List ℕ) → Settles (λ r. r ≡ openOf script)
+  pub advance : (script : List ℕ) (t : Table) (at : ℕ) → Settles (λ r. r ≡ advanceOf script t at)

@@ -1,0 +1,14 @@
+pub mod Seen
+pub mod Ruled
+pub mod LeftAlone
+pub mod Delivered
+pub mod Put
+pub mod Full
+pub mod Reached
+pub mod Changes
+pub mod Goes
+pub mod FreshReached
+pub mod Demand3
+pub mod WorkedRun
+pub mod Teeth
+pub mod RightParts

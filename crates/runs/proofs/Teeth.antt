@@ -1,0 +1,50 @@
+-- Demand 3 shuts out builds that have one thing wrong: for each there are steps after which one of its statements is false. Assumes nothing.
+use mathlib.Core.Path.{refl}
+use mathlib.Core.Bool.{false≢true}
+use borrow.Author.Tests.{eqb-false}
+use Rattle.handshake.specs.History.{at, transfer}
+use Rattle.handshake.specs.Sums.{sumBelow}
+use Rattle.station.specs.Below.{allBelow}
+use Rattle.station.specs.Sound.{stationSound, messageSound}
+use Rattle.station.specs.Steps.{addOf, drawOf, showOf}
+use Rattle.table.specs.Table.{firstFrom}
+use Rattle.table.specs.Sound.{tableSound}
+use Rattle.table.specs.Fresh.{seatsTo, freshOf}
+use Rattle.runs.specs.Runs.{logOf, tableAfter, added, drawn, historyOf, amounting}
+use Rattle.runs.specs.Demand3.{Demand3}
+use Rattle.runs.specs.Builds.{builtWith}
+use Rattle.runs.specs.Broken.{oneClock, oldToken, slotUnseen, slotAgain, slotFirst, tokenComes, clockStands, tokenOfNothing}
+use Rattle.runs.specs.Broken.{clockStandsUnasked, nothingAgain, inventedDraw, overdrawn}
+
+-- 1. 10 were added and 15 are there: the old token was filled twice
+pub one-clock-fails : Demand3 oneClock (freshOf 2 .table) → ⊥
+unfolding addOf drawOf showOf stationSound messageSound allBelow firstFrom tableSound seatsTo freshOf sumBelow builtWith logOf tableAfter added drawn
+one-clock-fails d = eqb-false 15 10 refl (d .accounted oldToken .passes)
+
+-- 2. 10 were added and 5 are there: the token was dropped before it landed
+pub slot-unseen-fails : Demand3 slotUnseen (freshOf 2 .table) → ⊥
+unfolding addOf drawOf showOf stationSound messageSound allBelow firstFrom tableSound seatsTo freshOf sumBelow builtWith logOf tableAfter added drawn
+slot-unseen-fails d = eqb-false 5 10 refl (d .accounted slotAgain .passes)
+
+-- 3. 10 were added and 5 are there: the slot went, and its token can never land
+pub slot-first-fails : Demand3 slotFirst (freshOf 2 .table) → ⊥
+unfolding addOf drawOf showOf stationSound messageSound allBelow firstFrom tableSound seatsTo freshOf sumBelow builtWith logOf tableAfter added drawn
+slot-first-fails d = eqb-false 5 10 refl (d .accounted tokenComes .passes)
+
+-- 4. the table is not sound: the token's source clock is not below its maker's
+pub clock-stands-fails : Demand3 clockStands (freshOf 2 .table) → ⊥
+unfolding addOf drawOf showOf stationSound messageSound allBelow firstFrom tableSound seatsTo freshOf builtWith tableAfter
+clock-stands-fails d = false≢true (d .accounted tokenOfNothing .sound)
+
+-- 4. and where that is not asked, departures 0 and 1 have the same stations and clocks
+pub clock-stands-unasked-fails : Demand3 clockStandsUnasked (freshOf 2 .table) → ⊥
+unfolding addOf drawOf showOf stationSound messageSound allBelow firstFrom tableSound seatsTo freshOf builtWith logOf historyOf at
+clock-stands-unasked-fails d =
+    let x = transfer 0 1 (amounting 0 0 0) in
+    eqb-false 0 1 refl
+    (d .accounted nothingAgain .pairing .one-departure 0 1 x x refl refl (record { maker = refl; receiver = refl; source = refl; destination = refl }))
+
+-- 5. 10 were added and 20 are said to be drawn
+pub invented-draw-fails : Demand3 inventedDraw (freshOf 2 .table) → ⊥
+unfolding addOf drawOf showOf stationSound messageSound allBelow firstFrom tableSound seatsTo freshOf sumBelow builtWith logOf tableAfter added drawn
+invented-draw-fails d = eqb-false 20 10 refl (d .accounted overdrawn .passes)

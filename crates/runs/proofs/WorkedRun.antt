@@ -1,0 +1,22 @@
+-- The worked script, run through the definitions that the code's promises cite, prints what document 01 prints, and its 5 passes depart once and arrive
+-- once. So demand 3's runs are not empty of meaning. Assumes nothing.
+use mathlib.Core.Path.{_≡_, refl}
+use Rattle.handshake.specs.Sums.{sumBelow}
+use Rattle.station.specs.Below.{allBelow}
+use Rattle.station.specs.Sound.{stationSound, messageSound}
+use Rattle.station.specs.Taking.{takeOf}
+use Rattle.station.specs.Steps.{addOf, drawOf, showOf, receiveOf}
+use Rattle.table.specs.Table.{firstFrom}
+use Rattle.table.specs.Sound.{tableSound}
+use Rattle.table.specs.Fresh.{seatsTo, freshOf}
+use Rattle.table.specs.Steps.{planOf, stepOf}
+use Rattle.runs.specs.Runs.{logOf, tableAfter, historyOf}
+use Rattle.runs.specs.Worked.{worked, stepLines, outputOf, workedOutput, workedHistory}
+
+pub worked-output : outputOf (tableAfter stepOf (freshOf 2 .table) worked) (logOf stepOf (freshOf 2 .table) worked) ≡ workedOutput
+unfolding addOf drawOf showOf receiveOf takeOf stationSound messageSound allBelow firstFrom tableSound seatsTo freshOf planOf stepOf sumBelow logOf tableAfter stepLines
+worked-output = refl
+
+pub worked-history : historyOf (logOf stepOf (freshOf 2 .table) worked) ≡ workedHistory
+unfolding addOf drawOf showOf receiveOf takeOf stationSound messageSound allBelow firstFrom tableSound seatsTo freshOf planOf stepOf logOf historyOf
+worked-history = refl

@@ -1,0 +1,5 @@
+pub mod Runs
+pub mod Demand3
+pub mod Worked
+pub mod Builds
+pub mod Broken
