@@ -3,3 +3,4 @@ pub mod Demand1
 pub mod Settled
 pub mod WrongsOut
 pub mod Shared
+pub mod PrintedRun

@@ -7,3 +7,4 @@ pub mod WrongTables
 pub mod WrongScripts
 pub mod Demand1
 pub mod Settled
+pub mod PrintedRun

@@ -1,12 +1,12 @@
 -- A turn keeps every clause; what is sent now, what arrived and what is stale meet theirs. Assumes nothing.
 use Prim.Native.Nat.{ℕ, _≤_, _<_}
-use mathlib.Core.Path.{_≡_, refl, sym, ap, _∙_}
+use mathlib.Core.Path.{_≡_, sym, ap}
 use mathlib.Core.Option.{Option, none, some}
 use mathlib.Core.Logic.{_⊎_, inl, inr}
 use native.Mathlib.Omega.{arith}
 use Rattle.handshake.specs.Channel.{Held, Channel, OnTheWay, Event, quiet, departs, arrives}
 use Rattle.handshake.specs.Clauses.{Standing, GiverShows, ReceiverShows, Spent}
-use Rattle.handshake.specs.Turn.{Turn, Opened, Departs, Arrives, Stays, Brings}
+use Rattle.handshake.specs.Turn.{Turn, Opened, Departs, Arrives, Brings}
 
 pub not-both : {A : Type 0} {o : Option A} {x : A} → o ≡ none → o ≡ some x → ⊥
 not-both p q = let z : _≡_ {A = ℕ} 0 1 = cc in omega arith

@@ -4,9 +4,9 @@ use mathlib.Core.Path.{_≡_, refl, sym, subst}
 use mathlib.Core.List.{List, [], _++_, append-nil, append-assoc}
 use mathlib.Core.Logic.{_⊎_, inl, inr}
 use native.Mathlib.Omega.{arith}
-use Rattle.handshake.specs.Channel.{Held, Event, quiet}
+use Rattle.handshake.specs.Channel.{Event, quiet}
 use Rattle.handshake.specs.Clauses.{Spent}
-use Rattle.handshake.specs.History.{Transfer, transfer, Entry, arrival, entries, at, In, departed, arrived}
+use Rattle.handshake.specs.History.{Transfer, Entry, arrival, entries, at, In, departed, arrived}
 use Rattle.handshake.specs.Web.{Web, Letter, Holds, Moves, onAllWays}
 use Rattle.handshake.proofs.Keeps.{not-both}
 use Rattle.handshake.proofs.Histories.{in-either, departed-both, arrived-both}

@@ -5,8 +5,8 @@ use mathlib.Core.Option.{Option, none, some}
 use mathlib.Core.Logic.{_⊎_, inl, inr}
 use native.Mathlib.Omega.{arith}
 use Rattle.handshake.specs.Channel.{Held, Channel, OnTheWay, Event, quiet, departs, arrives}
-use Rattle.handshake.specs.Clauses.{Standing, GiverShows, ReceiverShows, Spent}
-use Rattle.handshake.specs.Turn.{Turn, Opened, Departs, Arrives, Stays, Brings}
+use Rattle.handshake.specs.Clauses.{Standing, GiverShows, ReceiverShows}
+use Rattle.handshake.specs.Turn.{Turn, Opened, Brings}
 use Rattle.handshake.proofs.Keeps.{not-both, same-one}
 
 source-of : {Q : Type 0} {o : Option (Held Q)} {k l : Held Q} → o ≡ some k → o ≡ some l → k .source ≡ l .source

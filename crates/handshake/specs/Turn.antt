@@ -1,5 +1,5 @@
 -- A turn of a channel: what any rule of receiving, at either end, may do to it. All that the theory asks of a family of stations is that its rules are turns.
-use Prim.Native.Nat.{ℕ, _≤_, _<_}
+use Prim.Native.Nat.{_≤_, _<_}
 use mathlib.Core.Path.{_≡_}
 use mathlib.Core.Option.{none, some}
 use mathlib.Core.Logic.{_⊎_}

@@ -1,9 +1,9 @@
 -- Taking a message by the five rules is a passage, with the entries that its report tells. Assumes nothing.
-use Prim.Native.Nat.{ℕ, _+_, _<_}
-use mathlib.Core.Path.{_≡_, refl, sym, _∙_, ap}
+use Prim.Native.Nat.{ℕ, _<_}
+use mathlib.Core.Path.{_≡_, refl, ap}
 use mathlib.Core.Bool.{Bool, true, false}
 use mathlib.Core.List.{List, [], _++_}
-use Rattle.handshake.specs.Channel.{Held, Channel, Event, quiet}
+use Rattle.handshake.specs.Channel.{Channel}
 use Rattle.handshake.specs.Clauses.{Standing, GiverShows, ReceiverShows}
 use Rattle.handshake.specs.History.{Entry, entries}
 use Rattle.handshake.specs.Web.{Web, Letter, withEnd}
@@ -25,7 +25,7 @@ use Rattle.runs.specs.Runs.{arrivalBy, departureBy, entriesBy}
 use Rattle.runs.specs.Demand3.{amount}
 use Rattle.runs.proofs.Seen.{slotSeen, tokenSeen, endOf, letterOf, inward, outward, arrivesBy, departsBy}
 use Rattle.runs.proofs.Ruled.{fits, fill-turns, fill-leaves, drop-slot-turns, open-slot-turns, drop-token-turns, make-token-turns}
-use Rattle.runs.proofs.LeftAlone.{Takes, Gives, filled, slot-dropped, slot-opened, token-dropped, token-made}
+use Rattle.runs.proofs.LeftAlone.{filled, slot-dropped, slot-opened, token-dropped, token-made}
 
 -- what is reported and what the channel sees are the same entries
 arrival-entries : (m : Message) (h : HeldToken) (acted : Bool) (q : ℕ) → entries (m .from) (m .to) (arrivesBy h acted q) ≡ arrivalBy m h acted q

@@ -1,14 +1,13 @@
 -- Demand 3 holds of the build whose steps the code's promises cite, for every count that a table can have. Assumes nothing.
 use Prim.Native.Nat.{ℕ, zero, suc, _+_}
 use mathlib.Core.Path.{_≡_, refl, ap, subst}
-use mathlib.Core.Bool.{Bool, true, false}
+use mathlib.Core.Bool.{true, false}
 use mathlib.Core.List.{List, [], _∷_, _++_, append-nil, append-assoc}
 use mathlib.Core.Option.{some}
 use mathlib.Core.Logic.{⊎-elim}
 use native.Mathlib.Nat.{add-zero, add-assoc}
 use native.Mathlib.Omega.{arith}
-use Rattle.handshake.specs.Channel.{OnTheWay}
-use Rattle.handshake.specs.History.{Transfer, transfer, Entry, arrival, at, In, Belong}
+use Rattle.handshake.specs.History.{Transfer, transfer, Entry, arrival, at, In}
 use Rattle.handshake.proofs.Histories.{in-either}
 use Rattle.handshake.proofs.Keeps.{not-both, same-one, stale-spent}
 use Rattle.handshake.proofs.Passages.{SpentIn}
@@ -19,20 +18,31 @@ use Rattle.station.proofs.Below.{needed}
 use Rattle.station.specs.declared.held.HeldToken.the-variants.{OneToken}
 use Rattle.station.specs.declared.held.Token.{Token}
 use Rattle.table.specs.Fresh.{freshOf}
-use Rattle.table.specs.Steps.{planOf, stepOf}
+use Rattle.table.specs.Steps.{planBy, planOf, stepOf}
 use Rattle.table.specs.Table.{stationAt}
 use Rattle.table.specs.declared.planning.Step.{Step}
+use Rattle.table.specs.declared.planning.Step.the-variants.{Add, Draw, Send, Deliver, Lose}
 use Rattle.table.specs.declared.table.Table.{Table}
 use Rattle.table.proofs.Kept.{step-keeps}
 use Rattle.runs.specs.Demand3.{Demand3, waitsFor}
 use Rattle.runs.specs.Runs.{Line, lineOf, logOf, tableAfter, addedBy, drawnBy, added, drawn, entriesBy, historyOf, amounting}
 use Rattle.runs.proofs.FreshReached.{fresh-reached}
-use Rattle.runs.proofs.Goes.{Plain, plan-goes}
+use Rattle.runs.proofs.DeliverStep.{deliver-goes}
+use Rattle.runs.proofs.PlaceSteps.{send-goes, lose-goes}
+use Rattle.runs.proofs.Refused.{Plain, PlanGoes}
+use Rattle.runs.proofs.StockSteps.{add-goes, draw-goes}
 use Rattle.runs.proofs.Reached.{Reached, Goes, goes-on}
 use Rattle.runs.proofs.Ruled.{misfit}
 use Rattle.runs.proofs.Seen.{tokenSeen, webOf}
 
--- one step
+-- one step, each by its own reason
+plan-goes : {t : Table} {H : List (Entry ℕ)} {plus minus : ℕ} → Reached t H plus minus → (step : Step) → PlanGoes t step H (planBy t step)
+plan-goes r (Add k amount) = add-goes r k amount
+plan-goes r (Draw k amount) = draw-goes r k amount
+plan-goes r (Send from to) = send-goes r from to
+plan-goes r (Deliver p) = deliver-goes r p
+plan-goes r (Lose p) = lose-goes r p
+
 module _ {t : Table} {H : List (Entry ℕ)} {plus minus : ℕ} (r : Reached t H plus minus) (step : Step) where
   abbrev line : Line
   line = lineOf t step (stepOf t step)

@@ -1,20 +1,15 @@
 -- The lists of a run's table keep their lengths: 16 stations, 64 places, and at each station 16 slots and 16 tokens. Assumes nothing.
-use Prim.Native.Nat.{ℕ, zero, suc, _<_}
-use mathlib.Core.Path.{_≡_, refl, _∙_, ap}
-use mathlib.Core.List.{List}
-use lib.ListN.{length, set, length-set, length-replicate}
+use Prim.Native.Nat.{ℕ, _<_}
+use mathlib.Core.Path.{_≡_, _∙_}
+use lib.ListN.{length, length-set}
 use Rattle.station.specs.Limits.{mostStations}
-use Rattle.station.specs.Held.{noSlot, noToken}
 use Rattle.station.specs.Side.{putSide}
-use Rattle.station.specs.Steps.{blank, putStock}
+use Rattle.station.specs.Steps.{putStock}
 use Rattle.station.specs.declared.side.Side.{Side}
 use Rattle.station.specs.declared.station.Station.{Station}
 use Rattle.station.proofs.Stores.{stored}
-use Rattle.table.specs.Fresh.{blankTable}
 use Rattle.table.specs.Table.{mostPlaces, stationAt, putStation, putPlace}
 use Rattle.table.specs.declared.pool.Waiting.{Waiting}
-use Rattle.table.specs.declared.pool.Waiting.the-variants.{Empty}
-use Rattle.table.specs.declared.pool.Place.{Place}
 use Rattle.table.specs.declared.table.Table.{Table}
 
 pub record FullStation (s : Station) : Type 0 where

@@ -5,8 +5,12 @@ pub mod Delivered
 pub mod Put
 pub mod Full
 pub mod Reached
+pub mod Weighed
 pub mod Changes
-pub mod Goes
+pub mod Refused
+pub mod StockSteps
+pub mod PlaceSteps
+pub mod DeliverStep
 pub mod FreshReached
 pub mod Demand3
 pub mod WorkedRun

@@ -1,16 +1,14 @@
 -- What the theory sees of a table in which one station was put anew. Assumes nothing.
 use Prim.Native.Nat.{ℕ, _<_}
-use mathlib.Core.Path.{_≡_, refl, sym, _∙_, ap}
+use mathlib.Core.Path.{_≡_, refl, _∙_, ap}
 use mathlib.Core.Bool.{Bool, true, false, cond, _&&_}
 use mathlib.Core.List.{List}
-use mathlib.Core.Option.{Option}
 use native.Mathlib.Decide.{ℕ-discrete}
 use lib.Dec.{eqb}
 use lib.ListN.{getD, set, length}
 use lib.Seq.{getD-set-same, getD-set-other}
 use borrow.Author.Tests.{eq-eqb, ne-eqb, eqb-true}
-use Rattle.handshake.specs.Channel.{Held, Channel}
-use Rattle.handshake.specs.Web.{Web, End, withEnd}
+use Rattle.handshake.specs.Web.{withEnd}
 use Rattle.station.specs.Held.{noSlot, noToken, slotFor, tokenFor}
 use Rattle.station.specs.Side.{putSide}
 use Rattle.station.specs.Steps.{putStock}

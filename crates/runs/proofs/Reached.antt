@@ -1,6 +1,6 @@
 -- What holds of every table that a run reaches, and what a step has to show to keep it. Assumes nothing.
-use Prim.Native.Nat.{ℕ, _+_, _*_, _<_, _≤_}
-use mathlib.Core.Path.{_≡_, refl, sym, _∙_, ap}
+use Prim.Native.Nat.{ℕ, _+_, _<_, _≤_}
+use mathlib.Core.Path.{_≡_, refl, _∙_, ap}
 use mathlib.Core.Bool.{true}
 use mathlib.Core.List.{List, _++_}
 use mathlib.Core.Logic.{_⊎_}
@@ -8,7 +8,7 @@ use native.Mathlib.Omega.{arith}
 use lib.ListN.{length}
 use Rattle.handshake.specs.Sums.{sumBelow}
 use Rattle.handshake.specs.History.{Entry, departed, arrived}
-use Rattle.handshake.specs.Web.{Web, Letter, Holds, Present, onAllWays, weigh}
+use Rattle.handshake.specs.Web.{Letter, Holds, Present, onAllWays, weigh}
 use Rattle.handshake.proofs.Histories.{departed-both, arrived-both}
 use Rattle.handshake.proofs.Passages.{Passage}
 use Rattle.handshake.proofs.Sums.{sum-one, sum-most, pairs-same}

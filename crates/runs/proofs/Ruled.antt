@@ -1,18 +1,17 @@
 -- Each of the five rules is a turn of the channel that it touches. Assumes nothing.
-use Prim.Native.Nat.{ℕ, zero, suc, _+_, _≤_, _<_, min}
-use mathlib.Core.Path.{_≡_, refl, sym, ap, _∙_}
+use Prim.Native.Nat.{ℕ, _+_, min}
+use mathlib.Core.Path.{_≡_, refl, ap, _∙_}
 use mathlib.Core.Bool.{Bool, true, false, cond, _&&_, true≢false}
 use mathlib.Core.Logic.{inl}
 use mathlib.Core.Option.{Option, some}
 use native.Mathlib.Omega.{arith}
 use lib.Dec.{eqb, ltb, leb}
 use borrow.Author.Tests.{eqb-true, ltb-true, eq-eqb}
-use Rattle.handshake.specs.Channel.{Held, Channel, Event, quiet}
+use Rattle.handshake.specs.Channel.{Held, quiet}
 use Rattle.handshake.specs.Clauses.{Standing, GiverShows, ReceiverShows}
 use Rattle.handshake.specs.Turn.{Turn}
 use Rattle.handshake.proofs.Keeps.{not-both, same-one}
 use Rattle.handshake.proofs.Rules.{rests, fills, drops-slot, opens-slot, drops-token, makes-token}
-use Rattle.station.specs.Half.{halfAbove}
 use Rattle.station.specs.Limits.{lastClock}
 use Rattle.station.specs.Rules.{acts, agree, fillBy, dropSlotBy, openSlotBy, dropTokenBy, makeTokenBy, give}
 use Rattle.station.specs.Rules.{rests as restsAt}
