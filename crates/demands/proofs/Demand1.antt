@@ -1,6 +1,6 @@
 -- Demand 1 holds: every refusal has result 0, an empty report, and leaves what was lent. Assumes nothing.
 use Prim.Native.Nat.{ℕ, zero, suc}
-use mathlib.Core.Path.{_≡_, refl, _∙_}
+use mathlib.Core.Path.{_≡_, refl, sym, _∙_}
 use mathlib.Core.Bool.{Bool, true, false, cond}
 use mathlib.Core.List.{List}
 use mathlib.Core.Logic.{_≢_}
@@ -8,17 +8,22 @@ use lib.Dec.{ltb}
 use lib.ListN.{length}
 use Rattle.station.specs.declared.message.Message.{Message}
 use Rattle.station.specs.declared.outcome.Outcome.{Outcome}
+use Rattle.station.specs.declared.outcome.Report.{Report}
 use Rattle.station.specs.declared.station.Station.{Station}
-use Rattle.station.specs.Answers.{done}
-use Rattle.station.specs.Outcome.{answered}
+use Rattle.station.specs.Answers.{done, notSound, noRecord}
+use Rattle.station.specs.Outcome.{answered, noReport}
 use Rattle.station.specs.Sound.{countSound}
 use Rattle.station.specs.Steps.{noMessage, freshAnswer, addAnswer, drawAnswer, showAnswer, showing, receiveAnswer}
 use Rattle.station.specs.Steps.{messageFor, freshOf, addOf, drawOf, showOf, receiveOf}
 use Rattle.record.specs.declared.reading.Reading.{Reading}
 use Rattle.record.specs.declared.writing.Written.{Written}
 use Rattle.record.specs.Reading.{isRecord, noReading, readAt, readOf}
-use Rattle.record.specs.Writing.{Writes}
-use Rattle.record.specs.AtStation.{receiveBytesOf}
+use Rattle.record.specs.Layout.{bytesOf}
+use Rattle.record.specs.Writing.{Writes, writeAnswer}
+use Rattle.record.specs.AtStation.{writeForAnswer, receiveBytesOf}
+use Rattle.quynhabet.specs.Exports.{plainTold, toldOf, outcomeBy, refusedBy, writtenBy, readingBy, freshBy, addBy, drawBy, showBy, receiveBy, readBy, writeBy}
+use Rattle.quynhabet.specs.Layout.{numbersOf, stationOf, stationFits, messageNumbers, messageOf, messageFits}
+use Rattle.quynhabet.proofs.Giving.{kept-refused}
 use Rattle.table.specs.declared.planning.Plan.{Plan}
 use Rattle.table.specs.declared.planning.Step.{Step}
 use Rattle.table.specs.declared.planning.Step.the-variants.{Add, Draw, Send, Deliver, Lose}
@@ -42,7 +47,7 @@ use Rattle.script.specs.Lines.{lineOf, stationsOf}
 use Rattle.script.specs.Running.{lineAt, notOpened, openBy, openOf, pastLine, printedBy, advanceOf}
 use Rattle.script.specs.Script.{mostBytes, lineStep}
 use Rattle.script.proofs.Runs.{start-refused, output-opened}
-use Rattle.demands.specs.Demand1.{noStation, noTable, RefusedAs, RefusedAsTable, RefusedPlan, RefusedSum, Refused, Demand1}
+use Rattle.demands.specs.Demand1.{noStation, noTable, RefusedAs, RefusedAsTable, RefusedPlan, RefusedSum, Refused, RefusedNumbers, Demand1}
 
 -- one station: an answer that is not 0 makes a refusal of any outcome
 at-station : (n : ℕ) (s : Station) (d : Outcome) → d .answer ≡ done → RefusedAs s (answered n s d)
@@ -61,6 +66,26 @@ no-record false got e f = (refl, refl)
 writes : (answer : ℕ) (bytes before : List ℕ) (r : Written) (after : List ℕ) → Writes answer bytes before r after → Refused (r .answer) (r .result) before after
 writes zero bytes before r after w f = absurd (f (rw (w .told)))
 writes (suc n) bytes before r after w f = (rw (w .told), w .buffer)
+
+-- numbers: what is refused is told with result 0 and an empty report, and what was lent is kept
+told-refused : (n : ℕ) {result : ℕ} {report : Report} → result ≡ 0 → report ≡ noReport → toldOf n result report ≡ plainTold n 0
+told-refused n e f = rw (e, f)
+
+in-numbers : (s : Station) (o : Outcome) (before : List ℕ) → RefusedAs s o → RefusedNumbers before (outcomeBy o before)
+in-numbers s o before h f = let r = h f in (told-refused (o .answer) (r .0) (r .1), sym (kept-refused (o .answer) before (numbersOf (o .station)) f))
+
+on-numbers : (fits : Bool) (s : Station) (o : Outcome) (before : List ℕ) → RefusedAs s o
+    → RefusedNumbers before (cond fits (outcomeBy o before) (refusedBy notSound before))
+on-numbers true s o before h f = in-numbers s o before h f
+on-numbers false s o before h f = (refl, refl)
+
+into-bytes : (fits : Bool) (unfit answer : ℕ) (bytes before : List ℕ) → RefusedNumbers before (cond fits (writtenBy answer bytes before) (refusedBy unfit before))
+into-bytes true unfit zero bytes before f = absurd (f refl)
+into-bytes true unfit (suc n) bytes before f = (refl, refl)
+into-bytes false unfit answer bytes before f = (refl, refl)
+
+from-bytes : (r : Reading) (before : List ℕ) → Refused (r .answer) (r .result) noMessage (r .message) → RefusedNumbers before (readingBy r before)
+from-bytes r before h f = (told-refused (r .answer) (h f .0) refl, sym (kept-refused (r .answer) before (messageNumbers (r .message)) f))
 
 -- a table: a plan that is refused, and one that is made of a refusal or of a plan that is done
 no-plan : (n : ℕ) (p : Plan) → RefusedPlan p → RefusedPlan (planned n p)
@@ -130,7 +155,7 @@ one-line script zero t at f = absurd (f refl)
 one-line script (suc n) t at f = refl
 
 pub demand1 : Demand1
-unfolding freshOf addOf drawOf receiveOf receiveBytesOf showOf readAt openOf advanceOf
+unfolding freshOf addOf drawOf receiveOf receiveBytesOf showOf readAt openOf advanceOf freshBy addBy drawBy showBy receiveBy readBy writeBy
 demand1 =
     record {
       fresh = λ number count. at-station (freshAnswer number count) noStation _ refl;
@@ -142,6 +167,28 @@ demand1 =
       write = λ m before. writes _ _ before;
       write-message = λ s to before. writes _ _ before;
       receive-bytes = λ s bytes. at-station (receiveAnswer s (readOf bytes .message)) s _ refl;
+      qb-station-fresh = λ number count before. in-numbers noStation (freshOf number count) before (at-station (freshAnswer number count) noStation _ refl);
+      qb-station-add =
+          λ before amount.
+          let s = stationOf before in
+          on-numbers (stationFits before) s (addOf s amount) before (at-station (addAnswer s amount) s _ refl);
+      qb-station-draw =
+          λ before amount.
+          let s = stationOf before in
+          on-numbers (stationFits before) s (drawOf s amount) before (at-station (drawAnswer s amount) s _ refl);
+      qb-station-write =
+          λ numbers to before.
+          let s = stationOf numbers in
+          into-bytes (stationFits numbers) notSound (writeForAnswer s to (length before)) (bytesOf (messageFor s to)) before;
+      qb-station-receive =
+          λ before bytes.
+          let s = stationOf before in
+          on-numbers (stationFits before) s (receiveBytesOf s bytes) before (at-station (receiveAnswer s (readOf bytes .message)) s _ refl);
+      qb-record-read = λ bytes before. from-bytes (readOf bytes) before (no-record (isRecord bytes 0) _ refl);
+      qb-record-write =
+          λ numbers before.
+          let m = messageOf numbers in
+          into-bytes (messageFits numbers) noRecord (writeAnswer m (length before)) (bytesOf m) before;
       fresh-table = makes;
       plan-for = plans;
       step = steps;

@@ -3,6 +3,7 @@ use Prim.Native.Nat.{ℕ}
 use mathlib.Core.Path.{_≡_, sym, _∙_}
 use mathlib.Core.List.{List}
 use Rattle.record.specs.Writing.{Writes, written, left}
+use Rattle.quynhabet.specs.Exports.{Given, Gives}
 use Rattle.demands.specs.Settled.{Settles, SettlesBoth, Settled}
 
 given : {A : Type 0} (d : A) → Settles (λ r. r ≡ d)
@@ -16,6 +17,9 @@ given-both d e x y p q = pair x y (given d _ _ (p .0) (q .0)) (given e _ _ (p .1
 
 writing : (answer : ℕ) (bytes before : List ℕ) → SettlesBoth (Writes answer bytes before)
 writing answer bytes before x y p q = pair x y (given (written answer bytes) _ _ (p .told) (q .told)) (given (left answer bytes before) _ _ (p .buffer) (q .buffer))
+
+giving : (g : Given) → SettlesBoth (Gives g)
+giving g x y p q = pair x y (given (g .told) _ _ (p .told) (q .told)) (given (g .lent) _ _ (p .lent) (q .lent))
 
 pub settled : Settled
 settled =
@@ -36,11 +40,19 @@ settled =
       write = λ m before. writing _ _ _;
       write-message = λ s to before. writing _ _ _;
       receive-bytes = λ s bytes. given _;
+      qb-station-fresh = λ number count before. giving _;
+      qb-station-add = λ before amount. giving _;
+      qb-station-draw = λ before amount. giving _;
+      qb-station-write = λ numbers to before. giving _;
+      qb-station-receive = λ before bytes. giving _;
+      qb-record-read = λ bytes before. giving _;
+      qb-record-write = λ numbers before. giving _;
       fresh-table = λ count. given _;
       plan-for = λ t step. given _;
       step = λ t step. given _;
       on-the-way = λ t. given _;
       at-stations = λ t. given _;
+      qm-last-result = λ count codes. given _;
       send-in = λ pool m. given-both _ _;
       lose-in = λ pool p. given-both _ _;
       send-value = λ pool m. given _;

@@ -3,6 +3,7 @@
 -- order. It is stated of the definitions that the promises cite.
 -- Not listed: `count_is_sound`, `station_is_sound`, `message_is_sound`, `clocks_agree`. They are tests, and refuse nothing.
 -- Not listed: `blank_station`, `no_message`, `no_report`. They make what they are told to, and refuse nothing.
+-- Not listed: `qm_last_result`. It has no answer: it is a run of steps for the benchmark.
 -- Not listed: `fill`. It has no answer: what it prints of a step is the answer and the result of an advance.
 use Prim.Native.Nat.{ℕ, _≤_}
 use mathlib.Core.Path.{_≡_}
@@ -21,6 +22,7 @@ use Rattle.record.specs.Layout.{bytesOf}
 use Rattle.record.specs.Reading.{readOf}
 use Rattle.record.specs.Writing.{Writes, writeAnswer}
 use Rattle.record.specs.AtStation.{writeForAnswer, receiveBytesOf}
+use Rattle.quynhabet.specs.Exports.{Given, plainTold, freshBy, addBy, drawBy, showBy, receiveBy, readBy, writeBy}
 use Rattle.table.specs.declared.lent.Pooled.{Pooled}
 use Rattle.table.specs.declared.planning.Change.the-variants.{Nothing}
 use Rattle.table.specs.declared.planning.Plan.{Plan}
@@ -68,6 +70,10 @@ RefusedSum r = r .answer ≢ done → r .result ≡ 0
 abbrev pub Refused : {A : Type 0} → ℕ → ℕ → A → A → Type 0
 Refused answer result before after = answer ≢ done → (result ≡ 0) × (after ≡ before)
 
+-- where all that crosses is numbers: result 0, an empty report, and what was lent to be changed is as it was
+abbrev pub RefusedNumbers : List ℕ → Given → Type 0
+RefusedNumbers before g = g .told .answer ≢ done → (g .told ≡ plainTold (g .told .answer) 0) × (g .lent ≡ before)
+
 pub record Demand1 : Type 0 where
   -- 1, 2: a refused making is no station
   pub fresh : (number count : ℕ) → RefusedAs noStation (freshOf number count)
@@ -89,6 +95,20 @@ pub record Demand1 : Type 0 where
       → Writes (writeForAnswer s to (length before)) (bytesOf (messageFor s to)) before r after → Refused (r .answer) (r .result) before after
   -- 1, 9, 2, 11, 10: the station is as it was
   pub receive-bytes : (s : Station) (bytes : List ℕ) → RefusedAs s (receiveBytesOf s bytes)
+  -- 1, 2: the station's numbers are as they were
+  pub qb-station-fresh : (number count : ℕ) (before : List ℕ) → RefusedNumbers before (freshBy number count before)
+  -- 1, 4, 5, 10: the station's numbers are as they were
+  pub qb-station-add : (before : List ℕ) (amount : ℕ) → RefusedNumbers before (addBy amount before)
+  -- 1, 4: the station's numbers are as they were
+  pub qb-station-draw : (before : List ℕ) (amount : ℕ) → RefusedNumbers before (drawBy amount before)
+  -- 1, 2, 3, 14: every byte of the buffer is as it was
+  pub qb-station-write : (numbers : List ℕ) (to : ℕ) (before : List ℕ) → RefusedNumbers before (showBy numbers to before)
+  -- 1, 9, 2, 11, 10: the station's numbers are as they were
+  pub qb-station-receive : (before bytes : List ℕ) → RefusedNumbers before (receiveBy bytes before)
+  -- 9: the message's numbers are as they were
+  pub qb-record-read : (bytes before : List ℕ) → RefusedNumbers before (readBy bytes before)
+  -- 9, 14: every byte of the buffer is as it was
+  pub qb-record-write : (numbers before : List ℕ) → RefusedNumbers before (writeBy numbers before)
   -- 1: a refused making is no table
   pub fresh-table : (count : ℕ) → RefusedAsTable noTable (freshTableOf count)
   -- 1, then those of an add, a draw, a send, a delivery or a loss: nothing is planned

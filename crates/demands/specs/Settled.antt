@@ -17,6 +17,7 @@ use Rattle.record.specs.Layout.{bytesOf}
 use Rattle.record.specs.Reading.{readOf}
 use Rattle.record.specs.Writing.{Writes, writeAnswer}
 use Rattle.record.specs.AtStation.{writeForAnswer, receiveBytesOf}
+use Rattle.quynhabet.specs.Exports.{Gives, freshBy, addBy, drawBy, showBy, receiveBy, readBy, writeBy}
 use Rattle.table.specs.declared.lent.Pooled.{Pooled}
 use Rattle.table.specs.declared.planning.Step.{Step}
 use Rattle.table.specs.declared.pool.Place.{Place}
@@ -25,6 +26,7 @@ use Rattle.table.specs.Fresh.{freshOf as freshTableOf}
 use Rattle.table.specs.Lent.{sendInTold, sendInPool, loseInTold, loseInPool}
 use Rattle.table.specs.Steps.{planOf, stepOf}
 use Rattle.table.specs.Way.{onTheWay, atStations, asked}
+use Rattle.measure.specs.Steps.{lastResult}
 use Rattle.script.specs.Running.{openOf, advanceOf}
 
 -- any two outcomes that a promise allows are equal
@@ -55,12 +57,21 @@ pub record Settled : Type 0 where
   pub write : (m : Message) (before : List ℕ) → SettlesBoth (Writes (writeAnswer m (length before)) (bytesOf m) before)
   pub write-message : (s : Station) (to : ℕ) (before : List ℕ) → SettlesBoth (Writes (writeForAnswer s to (length before)) (bytesOf (messageFor s to)) before)
   pub receive-bytes : (s : Station) (bytes : List ℕ) → Settles (λ r. r ≡ receiveBytesOf s bytes)
+  -- the exports: what is changed is lent
+  pub qb-station-fresh : (number count : ℕ) (before : List ℕ) → SettlesBoth (Gives (freshBy number count before))
+  pub qb-station-add : (before : List ℕ) (amount : ℕ) → SettlesBoth (Gives (addBy amount before))
+  pub qb-station-draw : (before : List ℕ) (amount : ℕ) → SettlesBoth (Gives (drawBy amount before))
+  pub qb-station-write : (numbers : List ℕ) (to : ℕ) (before : List ℕ) → SettlesBoth (Gives (showBy numbers to before))
+  pub qb-station-receive : (before bytes : List ℕ) → SettlesBoth (Gives (receiveBy bytes before))
+  pub qb-record-read : (bytes before : List ℕ) → SettlesBoth (Gives (readBy bytes before))
+  pub qb-record-write : (numbers before : List ℕ) → SettlesBoth (Gives (writeBy numbers before))
   -- a table
   pub fresh-table : (count : ℕ) → Settles (λ r. r ≡ freshTableOf count)
   pub plan-for : (t : Table) (step : Step) → Settles (λ r. r ≡ planOf t step)
   pub step : (t : Table) (step : Step) → Settles (λ r. r ≡ stepOf t step)
   pub on-the-way : (t : Table) → Settles (λ r. r ≡ asked t (onTheWay t))
   pub at-stations : (t : Table) → Settles (λ r. r ≡ asked t (atStations t))
+  pub qm-last-result : (count : ℕ) (codes : List ℕ) → Settles (λ r. r ≡ lastResult (freshTableOf count .table) 0 codes)
   -- a pool, lent and by value
   pub send-in : (pool : List Place) (m : Message) → SettlesBoth (λ r after. (r ≡ sendInTold pool) × (after ≡ sendInPool pool m))
   pub lose-in : (pool : List Place) (p : ℕ) → SettlesBoth (λ r after. (r ≡ loseInTold pool p) × (after ≡ loseInPool pool p))

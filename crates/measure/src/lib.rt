@@ -1,0 +1,42 @@
+// A run of steps in one call, for benchmarks from Rust: the table stays on this side.
+ghost use mathlib.Core.Path.{_≡_};
+ghost use Rattle.table.specs.Fresh.{freshOf};
+ghost use Rattle.measure.specs.Steps.{stepBy, lastResult};
+use table::planning::Step;
+
+// A step of numbers.
+fn step_by(kind: u64, a: u64, b: u64) -> Step
+    ensures { λ r. ⌜ r ≡ stepBy kind a b ⌝ }
+{
+    if kind == 0 {
+        return Step::Add(a, b);
+    }
+    if kind == 1 {
+        return Step::Draw(a, b);
+    }
+    if kind == 2 {
+        return Step::Send(a, b);
+    }
+    if kind == 3 {
+        return Step::Deliver(a);
+    }
+    Step::Lose(a)
+}
+
+// The last result of steps from a fresh table on.
+#[no_mangle]
+pub extern "C" fn qm_last_result(count: u64, codes: &[u64]) -> u64
+    ensures { λ r. ⌜ r ≡ lastResult (freshOf count .table) 0 (now (codes .entry)) ⌝ }
+{
+    let made = table::fresh_table(count);
+    let mut t = made.table;
+    let mut last: u64 = 0;
+    let mut at: usize = 0;
+    while 3 <= codes.len() - at {
+        let done = table::step(t, step_by(codes[at], codes[at + 1], codes[at + 2]));
+        t = done.table;
+        last = done.result;
+        at = at + 3;
+    }
+    last
+}

@@ -1,0 +1,91 @@
+-- What each export tells, and what is then in what was lent.
+use Prim.Native.Nat.{ℕ, zero, suc, _+_}
+use mathlib.Core.Path.{_≡_}
+use mathlib.Core.Bool.{Bool, cond}
+use mathlib.Core.List.{List}
+use lib.ListN.{length}
+use Rattle.station.specs.declared.outcome.Outcome.{Outcome}
+use Rattle.station.specs.declared.outcome.Report.{Report}
+use Rattle.station.specs.Answers.{notSound, noRecord}
+use Rattle.station.specs.Outcome.{noReport}
+use Rattle.station.specs.Steps.{freshOf, addOf, drawOf, messageFor}
+use Rattle.record.specs.declared.reading.Reading.{Reading}
+use Rattle.record.specs.Layout.{bytesOf}
+use Rattle.record.specs.Reading.{readOf}
+use Rattle.record.specs.Writing.{written, left, writeAnswer}
+use Rattle.record.specs.AtStation.{writeForAnswer, receiveBytesOf}
+use Rattle.quynhabet.specs.declared.told.Told.{Told}
+use Rattle.quynhabet.specs.Layout.{stationOf, stationFits, numbersOf, messageOf, messageFits, messageNumbers}
+
+-- the rules that acted, as the sum of 1, 2, 4, 8, 16
+abbrev pub weight : Bool → ℕ → ℕ
+weight acted n = cond acted n 0
+
+abbrev pub rulesOf : Report → ℕ
+rulesOf r = weight (r .rule1) 1 + weight (r .rule2) 2 + weight (r .rule3) 4 + weight (r .rule4) 8 + weight (r .rule5) 16
+
+abbrev pub toldOf : ℕ → ℕ → Report → Told
+toldOf answer result r = record { answer = answer; result = result; rules = rulesOf r; opened = r .opened; made = r .made }
+
+-- where there is no report
+abbrev pub plainTold : ℕ → ℕ → Told
+plainTold answer result = toldOf answer result noReport
+
+-- what is told, and what is then in what was lent to be changed
+pub record Given : Type 0 where
+  pub told : Told
+  pub lent : List ℕ
+
+-- the one promise of every export
+pub record Gives (g : Given) (r : Told) (after : List ℕ) : Type 0 where
+  pub told : r ≡ g .told
+  pub lent : after ≡ g .lent
+
+-- what was lent changes only where the answer is 0
+abbrev pub kept : ℕ → List ℕ → List ℕ → List ℕ
+kept zero before later = later
+kept (suc n) before later = before
+
+abbrev pub outcomeBy : Outcome → List ℕ → Given
+outcomeBy o before = record { told = toldOf (o .answer) (o .result) (o .report); lent = kept (o .answer) before (numbersOf (o .station)) }
+
+abbrev pub refusedBy : ℕ → List ℕ → Given
+refusedBy n before = record { told = plainTold n 0; lent = before }
+
+-- numbers that are no station are not sound
+abbrev pub stepBy : Outcome → List ℕ → Given
+stepBy o before = cond (stationFits before) (outcomeBy o before) (refusedBy notSound before)
+
+abbrev pub writtenBy : ℕ → List ℕ → List ℕ → Given
+writtenBy answer bytes before = record { told = plainTold (written answer bytes .answer) (written answer bytes .result); lent = left answer bytes before }
+
+unfoldable pub freshBy : ℕ → ℕ → List ℕ → Given
+freshBy number count before = outcomeBy (freshOf number count) before
+
+unfoldable pub addBy : ℕ → List ℕ → Given
+addBy amount before = stepBy (addOf (stationOf before) amount) before
+
+unfoldable pub drawBy : ℕ → List ℕ → Given
+drawBy amount before = stepBy (drawOf (stationOf before) amount) before
+
+unfoldable pub receiveBy : List ℕ → List ℕ → Given
+receiveBy bytes before = stepBy (receiveBytesOf (stationOf before) bytes) before
+
+-- a station writes its message for another; its numbers are only read
+unfoldable pub showBy : List ℕ → ℕ → List ℕ → Given
+showBy numbers to before =
+    cond (stationFits numbers)
+    (writtenBy (writeForAnswer (stationOf numbers) to (length before)) (bytesOf (messageFor (stationOf numbers) to)) before)
+    (refusedBy notSound before)
+
+-- a record is read into a message's numbers
+abbrev pub readingBy : Reading → List ℕ → Given
+readingBy r before = record { told = plainTold (r .answer) (r .result); lent = kept (r .answer) before (messageNumbers (r .message)) }
+
+unfoldable pub readBy : List ℕ → List ℕ → Given
+readBy bytes before = readingBy (readOf bytes) before
+
+-- a message's numbers are written as a record; numbers that are no message are not sound
+unfoldable pub writeBy : List ℕ → List ℕ → Given
+writeBy numbers before =
+    cond (messageFits numbers) (writtenBy (writeAnswer (messageOf numbers) (length before)) (bytesOf (messageOf numbers)) before) (refusedBy noRecord before)
