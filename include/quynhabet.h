@@ -1,0 +1,139 @@
+/*
+ * quynhabet: one station that hands run passes to others by records, for C and C++.
+ *
+ * The functions are proved in Rattle and come as the archive libquynhabet.a, for x86-64.
+ * Beside them it needs only memcpy, which the C library has. A call takes about 8 KiB of stack.
+ *
+ * THE LAYOUT, version 1. A station is 134 numbers of 64 bits:
+ *
+ *     0          its number
+ *     1          the count of stations, 2 to 16
+ *     2          its value, at most 16,000,000,000
+ *     3          its intake, all it ever added, at most 1,000,000,000
+ *     4          its source clock, at most 4,294,967,295
+ *     5          its destination clock, at most 4,294,967,295
+ *     6 to 69    its slots for peers 0 to 15, four numbers each
+ *     70 to 133  its tokens for peers 0 to 15, four numbers each
+ *
+ * A slot or token is: present (0 or 1), source clock, destination clock, quantity.
+ * What is not held is four zeros.
+ *
+ * A message is 13 numbers: from, to, value, source clock, destination clock, slot (4), token (4).
+ *
+ * A number too wide for its field, or not 0 in what is not held, is not sound:
+ * answer 1 for a station, 9 for a message.
+ *
+ * Later versions add numbers to a station. Keep QB_LAYOUT_VERSION in front of what is saved,
+ * and load only numbers of the version that the program was built with.
+ *
+ * SAVING. The 134 numbers are what a station keeps on disk.
+ *   - The state is saved before any record or drawn pass leaves the station.
+ *   - An older save is never loaded again. No two programs run the same station.
+ * Otherwise passes may be lost or doubled, and demand 3 is not claimed.
+ *
+ * WHAT THE CALLER OWES. Any numbers and any bytes are fine: they are used or refused.
+ * 'Any input' stops at the boundary. The caller owes, and nothing here can test:
+ *   - Pointers that are valid, not null (not even with a length of 0), and aligned for their type.
+ *   - Arrays of 134 and 13 numbers that are really that long, and set: zeros will do for those
+ *     that qb_station_fresh and qb_record_read fill, which a refusal leaves as they were.
+ *   - Lengths that are true: record_len bytes can be read, out_len bytes can be written.
+ *   - Buffers of one call that do not overlap.
+ *   - No other thread that uses a buffer of the call while it runs.
+ * The functions keep no state of their own and take no memory.
+ */
+#ifndef QUYNHABET_H
+#define QUYNHABET_H
+
+#include <stddef.h>
+#include <stdint.h>
+
+#ifdef __cplusplus
+extern "C" {
+#endif
+
+#define QB_LAYOUT_VERSION 1
+
+/* Sizes: numbers of a station, numbers of a message, bytes of the longest record. */
+#define QB_STATION_NUMBERS 134
+#define QB_MESSAGE_NUMBERS 13
+#define QB_RECORD_MAX 68
+
+/* Places in a station. A slot or token starts at its place, for a peer of 0 to 15. */
+#define QB_STATION_NUMBER 0
+#define QB_STATION_COUNT 1
+#define QB_STATION_VALUE 2
+#define QB_STATION_INTAKE 3
+#define QB_STATION_SOURCE_CLOCK 4
+#define QB_STATION_DESTINATION_CLOCK 5
+#define QB_STATION_SLOT(peer) (6 + 4 * (peer))
+#define QB_STATION_TOKEN(peer) (70 + 4 * (peer))
+
+/* Places in a message. */
+#define QB_MESSAGE_FROM 0
+#define QB_MESSAGE_TO 1
+#define QB_MESSAGE_VALUE 2
+#define QB_MESSAGE_SOURCE_CLOCK 3
+#define QB_MESSAGE_DESTINATION_CLOCK 4
+#define QB_MESSAGE_SLOT 5
+#define QB_MESSAGE_TOKEN 9
+
+/* Places in a slot or token, counted from its start. */
+#define QB_PRESENT 0
+#define QB_SOURCE_CLOCK 1
+#define QB_DESTINATION_CLOCK 2
+#define QB_QUANTITY 3
+
+/* The answers. 6, 7, 8, 12 and 13 belong to tables and scripts; nothing here gives them. */
+#define QB_DONE 0               /* done */
+#define QB_NOT_SOUND 1          /* station lent is not sound, or a count is not 2 to 16 */
+#define QB_NO_STATION 2         /* station number, or the from or to of a received record, not below the count */
+#define QB_SAME_STATION 3       /* sender and receiver are the same */
+#define QB_BAD_AMOUNT 4         /* amount is 0 or above 1,000,000,000 */
+#define QB_INTAKE_FULL 5        /* intake would pass its limit */
+#define QB_NO_RECORD 9          /* bytes are no record, or a message to be written is not sound */
+#define QB_VALUE_TOO_HIGH 10    /* an add, or a fill by rule 1, would bring a value above 16,000,000,000 */
+#define QB_OTHER_STATION 11     /* a received record is for another station */
+#define QB_BUFFER_TOO_SHORT 14  /* the output buffer is shorter than the record */
+
+/* The rules of receiving, as they stand in `rules`. */
+#define QB_RULE_FILL 1
+#define QB_RULE_DROP_SLOT 2
+#define QB_RULE_OPEN_SLOT 4
+#define QB_RULE_DROP_TOKEN 8
+#define QB_RULE_MAKE_TOKEN 16
+
+/*
+ * What a call tells. A refusal has an answer that is not 0 and all else 0; it changes nothing lent.
+ * Only receiving has rules, the sum of those that acted, and the quantities of a slot opened and
+ * of a token made.
+ */
+typedef struct {
+    uint64_t answer, result, rules, opened, made;
+} qb_told;
+
+/* Makes a fresh station, every value and clock 0. Result 0. Refusals, in order: 1, 2. */
+qb_told qb_station_fresh(uint64_t number, uint64_t count, uint64_t station[QB_STATION_NUMBERS]);
+
+/* Adds passes. Result: the new value. Refusals, in order: 1, 4, 5, 10. */
+qb_told qb_station_add(uint64_t station[QB_STATION_NUMBERS], uint64_t amount);
+
+/* Draws passes, at most the value. Result: what was taken, which may be 0. Refusals, in order: 1, 4. */
+qb_told qb_station_draw(uint64_t station[QB_STATION_NUMBERS], uint64_t amount);
+
+/* Writes the record for station `to`. Result: its length; bytes past it stay. Refusals, in order: 1, 2, 3, 14. */
+qb_told qb_station_write(const uint64_t station[QB_STATION_NUMBERS], uint64_t to, uint8_t *out, size_t out_len);
+
+/* Takes a record by the five rules. Result: the amount filled, or 0. Refusals, in order: 1, 9, 2, 11, 10. */
+qb_told qb_station_receive(uint64_t station[QB_STATION_NUMBERS], const uint8_t *record, size_t record_len);
+
+/* Reads a record as a message. Result: the record's length. Refusal: 9. */
+qb_told qb_record_read(const uint8_t *record, size_t record_len, uint64_t message[QB_MESSAGE_NUMBERS]);
+
+/* Writes a message as a record. Result: its length; bytes past it stay. Refusals, in order: 9, 14. */
+qb_told qb_record_write(const uint64_t message[QB_MESSAGE_NUMBERS], uint8_t *out, size_t out_len);
+
+#ifdef __cplusplus
+}
+#endif
+
+#endif
