@@ -1,0 +1,90 @@
+//! Random numbers, at the edges more often than not.
+
+use super::random::Random;
+use crate::limits::{CLOCK_END, INTAKE_MOST, VALUE_MOST};
+
+/// Numbers at the edge of something, for where any u64 may stand.
+pub fn any_number(random: &mut Random) -> u64 {
+    const EDGES: [u64; 17] = [
+        0,
+        1,
+        2,
+        3,
+        15,
+        16,
+        17,
+        255,
+        256,
+        INTAKE_MOST,
+        CLOCK_END,
+        CLOCK_END + 1,
+        VALUE_MOST,
+        1 << 40,
+        1 << 63,
+        u64::MAX - 1,
+        u64::MAX,
+    ];
+    match random.below(8) {
+        0 => random.number(),
+        1 => random.number() >> random.below(64),
+        _ => {
+            let edge = random.pick(&EDGES);
+            random.around(edge)
+        }
+    }
+}
+
+/// A clock: small, or at its end, or any.
+pub fn clock(random: &mut Random) -> u64 {
+    match random.below(10) {
+        0 => CLOCK_END,
+        1 => CLOCK_END - 1,
+        2 => random.below(CLOCK_END + 1),
+        3 => CLOCK_END - random.below(4),
+        _ => random.below(4),
+    }
+}
+
+/// A value: small, or at its limit, or any.
+pub fn value(random: &mut Random) -> u64 {
+    match random.below(10) {
+        0 => VALUE_MOST,
+        1 => VALUE_MOST - random.below(4),
+        2 => random.below(VALUE_MOST + 1),
+        3 => VALUE_MOST / 2 + random.below(3),
+        4 => INTAKE_MOST,
+        _ => random.below(12),
+    }
+}
+
+/// A clock below this one, which is at least 1: often the one just below.
+pub fn clock_below(bound: u64, random: &mut Random) -> u64 {
+    match random.below(3) {
+        0 => bound - 1,
+        1 => random.below(bound.min(4)),
+        _ => random.below(bound),
+    }
+}
+
+/// The clock, or the end if it is past that.
+pub fn clipped(clock: u64) -> u64 {
+    clock.min(CLOCK_END)
+}
+
+/// The clock, one beside it, or any.
+pub fn near_clock(near: u64, random: &mut Random) -> u64 {
+    if random.chance(75) {
+        clipped(random.around(near))
+    } else {
+        clock(random)
+    }
+}
+
+/// A value the same, a little more or less, or any.
+pub fn shown_value(own: u64, random: &mut Random) -> u64 {
+    match random.below(4) {
+        0 => value(random),
+        1 => own.saturating_sub(random.below(4)),
+        _ => own.saturating_add(random.below(5)),
+    }
+}

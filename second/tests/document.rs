@@ -1,0 +1,280 @@
+//! What the document shows: its worked script, its cases at the edges, its
+//! 30-byte record, and the ways it has been got wrong.
+
+use second::limits::{CLOCK_END, VALUE_MOST};
+use second::{record, script, Answer, Fault, Held, Message, Station, Table, Told};
+
+const WORKED: &str = "stations 2/add 0 10/send 0 1/deliver 0/send 1 0/deliver 1/draw 0 7/\
+    send 0 1/deliver 2/deliver 2/lose 2/send 0 0";
+
+const WORKED_OUTPUT: &str = "1 0 10
+2 0 0
+3 0 0
+4 0 1
+5 0 0
+6 0 5
+7 0 2
+8 0 5
+9 0 0
+10 0 0
+11 3 0
+station 0 value 0 source 1 destination 0
+station 1 value 5 source 0 destination 1
+on the way 0
+total 5
+";
+
+const RECORD: [u8; 30] =
+    [1, 0, 1, 0, 2, 0, 1, 1, 3, 0, 8, 0, 0, 0, 0, 0, 0, 0, 10, 4, 0, 8, 0, 0, 0, 0, 0, 0, 0, 0];
+
+fn held(source: u64, destination: u64, quantity: u64) -> Held {
+    Held { source, destination, quantity }
+}
+
+/// Station 1 of 2 with this value, and enough room below its clocks.
+fn station(value: u64) -> Station {
+    let (_, fresh) = Station::fresh(1, 2);
+    Station { value, ..fresh }
+}
+
+/// A message from station 0 to station 1 that shows this value.
+fn message(value: u64) -> Message {
+    Message { from: 0, to: 1, value, ..Message::default() }
+}
+
+fn take(station: &mut Station, message: &Message) -> Told {
+    let told = station.receive_message(message, Fault::None);
+    assert_eq!(told.answer, Answer::Done);
+    told
+}
+
+fn run(script: &str) -> String {
+    let output = script::run(script.replace('/', "\n").as_bytes(), Fault::None);
+    String::from_utf8(output).expect("the output is plain text")
+}
+
+#[test]
+fn worked_script() {
+    assert_eq!(run(WORKED), WORKED_OUTPUT);
+    assert_eq!(run(&format!("{WORKED}/")), WORKED_OUTPUT);
+}
+
+#[test]
+fn edge_values_10_and_0_open_a_slot_of_5() {
+    let mut poorer = station(0);
+    let told = take(&mut poorer, &message(10));
+    assert_eq!(told.report.rules_sum(), 4);
+    assert_eq!((told.result, told.report.opened), (0, 5));
+    assert_eq!(poorer.slots[0], Some(held(0, 0, 5)));
+    assert_eq!(poorer.destination, 1);
+}
+
+#[test]
+fn edge_values_1_and_0_open_no_slot() {
+    let mut poorer = station(0);
+    assert_eq!(take(&mut poorer, &message(1)), Told::done(0));
+    assert_eq!(poorer, station(0));
+}
+
+#[test]
+fn edge_values_3_and_5_open_no_slot() {
+    let mut richer = station(5);
+    assert_eq!(take(&mut richer, &message(3)), Told::done(0));
+    assert_eq!(richer, station(5));
+}
+
+/// A message that shows value 0 and a slot (0,0) of 5.
+fn asking() -> Message {
+    Message { destination: 1, slot: Some(held(0, 0, 5)), ..message(0) }
+}
+
+#[test]
+fn edge_slot_of_5_and_5_held_make_a_token_of_5() {
+    let mut maker = station(5);
+    let told = take(&mut maker, &asking());
+    assert_eq!((told.report.rules_sum(), told.report.made), (16, 5));
+    assert_eq!((maker.value, maker.source), (0, 1));
+    assert_eq!(maker.tokens[0], Some(held(0, 0, 5)));
+}
+
+#[test]
+fn edge_slot_of_5_and_0_held_make_a_token_of_0() {
+    let mut maker = station(0);
+    let told = take(&mut maker, &asking());
+    assert_eq!((told.report.rules_sum(), told.report.made), (16, 0));
+    assert_eq!((maker.value, maker.source), (0, 1));
+    assert_eq!(maker.tokens[0], Some(held(0, 0, 0)));
+}
+
+#[test]
+fn edge_the_same_slot_again_makes_no_token() {
+    let mut maker = station(5);
+    take(&mut maker, &asking());
+    let once = maker.clone();
+    assert_eq!(take(&mut maker, &asking()), Told::done(0));
+    assert_eq!(maker, once);
+}
+
+#[test]
+fn edge_the_same_token_again_leaves_the_value() {
+    let mut poorer = station(0);
+    take(&mut poorer, &message(10));
+    let carrying = Message { source: 1, token: Some(held(0, 0, 5)), ..message(5) };
+    let told = take(&mut poorer, &carrying);
+    assert_eq!((told.result, told.report.rules_sum(), poorer.value), (5, 1, 5));
+    assert_eq!(take(&mut poorer, &carrying), Told::done(0));
+    assert_eq!(poorer.value, 5);
+}
+
+#[test]
+fn edge_a_slot_is_dropped_and_none_opened() {
+    let mut receiver = Station { destination: 1, ..station(4) };
+    receiver.slots[0] = Some(held(0, 0, 3));
+    let told = take(&mut receiver, &Message { source: 1, ..message(4) });
+    assert_eq!(told.report.rules_sum(), 2);
+    assert_eq!(receiver, Station { destination: 1, ..station(4) });
+}
+
+#[test]
+fn edge_intake_at_its_limit() {
+    let near = Station { intake: 999_999_999, ..station(0) };
+    let mut filled = near.clone();
+    assert_eq!(filled.add(1), Told::done(1));
+    let mut refused = near.clone();
+    assert_eq!(refused.add(2), Told::refused(Answer::IntakeLimit));
+    assert_eq!(refused, near);
+}
+
+#[test]
+fn edge_the_30_byte_record_and_a_31st_byte() {
+    let mut longer = RECORD.to_vec();
+    assert_eq!(record::read(&longer), (Told::done(30), message(10)));
+    longer.push(0);
+    assert_eq!(record::read(&longer), (Told::refused(Answer::NoRecord), Message::default()));
+}
+
+#[test]
+fn the_30_byte_record_is_written() {
+    let (_, mut sender) = Station::fresh(0, 2);
+    sender.add(10);
+    let mut out = [0xee; 33];
+    assert_eq!(sender.write(1, &mut out), Told::done(30));
+    assert_eq!(out[..30], RECORD);
+    assert_eq!(out[30..], [0xee; 3]);
+    assert_eq!(sender.write(1, &mut out[..29]), Told::refused(Answer::ShortBuffer));
+    assert_eq!(sender.write(0, &mut []), Told::refused(Answer::SameStation));
+    assert_eq!(sender.write(2, &mut []), Told::refused(Answer::NoStation));
+}
+
+#[test]
+fn wrong_a_second_fill_by_one_clock() {
+    let mut receiver = Station { destination: 2, ..station(5) };
+    receiver.slots[0] = Some(held(0, 1, 2));
+    let late = Message { source: 1, token: Some(held(0, 0, 5)), ..message(5) };
+    let told = receiver.clone().receive_message(&late, Fault::None);
+    assert_eq!((told.result, told.report.rules_sum()), (0, 2));
+    assert_eq!(receiver.receive_message(&late, Fault::FillByOneClock).result, 5);
+}
+
+#[test]
+fn wrong_rule_4_without_a_look_at_the_slot() {
+    let mut maker = Station { source: 1, ..station(0) };
+    maker.tokens[0] = Some(held(0, 0, 5));
+    let mut kept = maker.clone();
+    assert_eq!(kept.receive_message(&asking(), Fault::None), Told::done(0));
+    assert_eq!(kept.tokens[0], Some(held(0, 0, 5)));
+    maker.receive_message(&asking(), Fault::Rule4WithoutSlot);
+    assert_eq!(maker.tokens[0], None);
+}
+
+#[test]
+fn clocks_at_their_end_open_and_make_nothing() {
+    let mut receiver = Station { destination: CLOCK_END, ..station(0) };
+    assert_eq!(take(&mut receiver, &message(10)), Told::done(0));
+    let mut maker = Station { source: CLOCK_END, ..station(9) };
+    let slot = Some(held(CLOCK_END, 0, 5));
+    assert_eq!(take(&mut maker, &Message { slot, ..asking() }), Told::done(0));
+    assert_eq!(maker.value, 9);
+}
+
+#[test]
+fn a_fill_above_the_limit_is_refused() {
+    let mut receiver = Station { destination: 1, ..station(VALUE_MOST) };
+    receiver.slots[0] = Some(held(0, 0, 1));
+    let before = receiver.clone();
+    let carrying = Message { source: 1, token: Some(held(0, 0, 1)), ..message(0) };
+    let told = receiver.receive_message(&carrying, Fault::None);
+    assert_eq!(told, Told::refused(Answer::ValueLimit));
+    assert_eq!(receiver, before);
+}
+
+#[test]
+fn receiving_refuses_in_order() {
+    let (_, mut receiver) = Station::fresh(1, 3);
+    let mut told = |m: Message| receiver.receive_message(&m, Fault::None).answer;
+    assert_eq!(told(Message { from: 1, to: 1, ..message(0) }), Answer::NoRecord);
+    assert_eq!(told(Message { from: 3, ..message(0) }), Answer::NoStation);
+    assert_eq!(told(Message { to: 3, ..message(0) }), Answer::NoStation);
+    assert_eq!(told(Message { to: 2, ..message(0) }), Answer::OtherStation);
+    let mut unsound = Station::default();
+    assert_eq!(unsound.receive(&[], Fault::None).answer, Answer::NotSound);
+}
+
+#[test]
+fn first_lines() {
+    for bad in
+        ["", "/", "stations", "stations 02", "stations  2", "stations 2 ", "stations 10000000000"]
+    {
+        assert_eq!(run(bad), "0 12 0\n", "{bad}");
+    }
+    for count in ["0", "1", "17", "4294967298", "9999999999"] {
+        assert_eq!(run(&format!("stations {count}/add 0 1")), "0 1 0\n", "{count}");
+    }
+    let long = format!("stations 2{}", "\n".repeat(65_526));
+    assert!(script::run(long.as_bytes(), Fault::None).starts_with(b"1 12 0\n"));
+    assert_eq!(run(&format!("{long}\n")), "0 13 0\n");
+}
+
+#[test]
+fn step_lines() {
+    let answers = |script: &str| -> Vec<String> {
+        let steps = script.split('/').count() - 1;
+        run(script)
+            .lines()
+            .take(steps)
+            .map(|l| l.split(' ').nth(1).unwrap_or("").to_string())
+            .collect()
+    };
+    let all = "stations 2/deliver 4294967296/add 4294967296 1/deliver 63/lose 0/add 0 0/\
+        add 0 1000000001/add  0 1/add 0 01/add 0 10000000000/send 0 1 /deliver -1//send 0 2/\
+        send 2 2";
+    assert_eq!(answers(all).join(" "), "7 2 8 8 4 4 12 12 12 12 12 12 2 2");
+    assert_eq!(run("stations 2//"), run("stations 2/x"));
+    assert_eq!(run("stations 2/").lines().count(), 4);
+}
+
+#[test]
+fn the_pool_fills_and_a_lost_place_is_used_again() {
+    let (_, mut table) = Table::fresh(2);
+    for place in 0..64 {
+        assert_eq!(table.send(0, 1), Told::done(place));
+    }
+    assert_eq!(table.send(0, 1), Told::refused(Answer::PoolFull));
+    assert_eq!(table.send(0, 0), Told::refused(Answer::SameStation));
+    assert_eq!(table.lose(7), Told::done(0));
+    assert_eq!(table.send(1, 0), Told::done(7));
+}
+
+#[test]
+fn soundness_of_a_table() {
+    let (_, fresh) = Table::fresh(3);
+    assert!(fresh.is_sound());
+    let mut other = fresh.clone();
+    other.stations[3].value = VALUE_MOST + 1;
+    assert!(other.is_sound(), "stations past the count are no part of the table");
+    other.stations[2].count = 4;
+    assert_eq!(other.on_the_way(), Told::refused(Answer::NotSound));
+    let mut pooled = fresh;
+    pooled.pool[63] = Some(Message { from: 3, to: 0, ..Message::default() });
+    assert_eq!(pooled.lose(64), Told::refused(Answer::NotSound));
+}
