@@ -1,0 +1,161 @@
+//! Times the proved code and the code by hand on the same input, turn by turn in one run, and prints a table of ratios.
+
+mod inputs;
+mod proved;
+
+use inputs::{records, script, stations, steps, Random};
+use speed::{record, table};
+use std::hint::black_box;
+use std::io::Write;
+use std::process::{Command, Stdio};
+use std::time::Instant;
+
+/// How often each is timed; the least time counts, since anything else on the machine only adds.
+const TURNS: usize = 21;
+
+/// The least times of both, in nanoseconds for each of n operations.
+fn timed(n: usize, mut first: impl FnMut(), mut second: impl FnMut()) -> (f64, f64) {
+    let mut least = (f64::MAX, f64::MAX);
+    for _ in 0..TURNS {
+        let start = Instant::now();
+        first();
+        least.0 = least.0.min(start.elapsed().as_nanos() as f64);
+        let start = Instant::now();
+        second();
+        least.1 = least.1.min(start.elapsed().as_nanos() as f64);
+    }
+    (least.0 / n as f64, least.1 / n as f64)
+}
+
+fn told(name: &str, times: (f64, f64)) {
+    println!("| {name} | {:.0} | {:.0} | {:.2} |", times.0, times.1, times.0 / times.1);
+}
+
+fn time_records(random: &mut Random) {
+    let all = records(random, 4096);
+    let mut out = [0u8; 80];
+    for (bytes, message) in &all {
+        let mut read = [[0u64; 13]; 2];
+        assert_eq!(proved::read(bytes, &mut read[0]), record::read(bytes, &mut read[1]));
+        assert_eq!((read[0], read[1]), (*message, *message));
+        assert_eq!(proved::write(message, &mut out), record::write(message, &mut [0u8; 80]));
+        assert_eq!(&out[..bytes.len()], &bytes[..]);
+    }
+    let mut message = [0u64; 13];
+    let mut other = [0u64; 13];
+    let times = timed(
+        all.len(),
+        || {
+            all.iter().for_each(|(bytes, _)| {
+                black_box(proved::read(black_box(bytes), &mut message));
+            })
+        },
+        || {
+            all.iter().for_each(|(bytes, _)| {
+                black_box(record::read(black_box(bytes), &mut other));
+            })
+        },
+    );
+    told("a record read", times);
+    let mut second = [0u8; 80];
+    let times = timed(
+        all.len(),
+        || {
+            all.iter().for_each(|(_, m)| {
+                black_box(proved::write(black_box(m), &mut out));
+            })
+        },
+        || {
+            all.iter().for_each(|(_, m)| {
+                black_box(record::write(black_box(m), &mut second));
+            })
+        },
+    );
+    told("a record written", times);
+}
+
+fn time_receiving(random: &mut Random) {
+    let all = stations(random, 512);
+    for (station, bytes) in &all {
+        let mut both = [*station, *station];
+        assert_eq!(proved::receive(&mut both[0], bytes), record::receive(&mut both[1], bytes));
+        assert_eq!(both[0], both[1]);
+    }
+    let mut first: Vec<_> = all.clone();
+    let mut second = all.clone();
+    let times = timed(
+        all.len(),
+        || {
+            first.iter_mut().for_each(|(s, bytes)| {
+                black_box(proved::receive(s, black_box(bytes)));
+            })
+        },
+        || {
+            second.iter_mut().for_each(|(s, bytes)| {
+                black_box(record::receive(s, black_box(bytes)));
+            })
+        },
+    );
+    told("bytes received at a station of 16", times);
+}
+
+fn time_steps(random: &mut Random) {
+    for count in [2, 4, 8, 16] {
+        let codes = steps(random, count, 4000);
+        assert_eq!(proved::last_result(count, &codes), table::last_result(count, &codes));
+        let times = timed(
+            codes.len() / 3,
+            || {
+                black_box(proved::last_result(count, black_box(&codes)));
+            },
+            || {
+                black_box(table::last_result(count, black_box(&codes)));
+            },
+        );
+        told(&format!("a step of a table of {count}, in a mix"), times);
+    }
+}
+
+/// What a program prints of a script.
+fn run(program: &str, script: &str) -> Vec<u8> {
+    let mut child = Command::new(program)
+        .stdin(Stdio::piped())
+        .stdout(Stdio::piped())
+        .spawn()
+        .expect("the program starts");
+    let mut stdin = child.stdin.take().expect("it has an input");
+    let bytes = script.as_bytes().to_vec();
+    let writer = std::thread::spawn(move || stdin.write_all(&bytes));
+    let output = child.wait_with_output().expect("it ends");
+    writer.join().expect("the writer ends").expect("all is written");
+    output.stdout
+}
+
+fn time_scripts(random: &mut Random, bench: &str, by_hand: &str) {
+    for count in [2, 4, 16] {
+        let script = script(random, count, 65_000);
+        assert!(run(bench, &script) == run(by_hand, &script), "both print the same");
+        let times = timed(
+            script.lines().count(),
+            || drop(run(bench, &script)),
+            || drop(run(by_hand, &script)),
+        );
+        told(&format!("a script of 65,000 bytes on {count} stations, a line"), times);
+    }
+}
+
+fn main() {
+    let words: Vec<String> = std::env::args().collect();
+    let [_, bench, by_hand] = &words[..] else {
+        eprintln!("usage: speed PATH-OF-BENCH PATH-OF-BY-HAND");
+        std::process::exit(2);
+    };
+    let mut random = Random(20_261_115);
+    println!("| operation | proved, ns | by hand, ns | ratio |");
+    println!("|---|---|---|---|");
+    time_records(&mut random);
+    time_receiving(&mut random);
+    time_steps(&mut random);
+    time_scripts(&mut random, bench, by_hand);
+    println!("\nThe least of {TURNS} turns each, both in one run on the same input. Buffers were written to before and not cleared between calls.");
+}
