@@ -318,8 +318,15 @@ fn passes_vanish() {
     show_why(&lab, "5 passes vanished: their token fits only the slot that was forgotten.");
 }
 
+/// The rule that the last two parts break.
+fn tell_the_rule() {
+    println!("\nThe rule for saving: the state is saved before any record or drawn pass leaves the station,");
+    println!("and an older save is never loaded again. Otherwise nothing of this is claimed.");
+}
+
 fn main() {
     first_part();
+    tell_the_rule();
     passes_appear();
     passes_vanish();
 }
