@@ -33,10 +33,9 @@ use Rattle.table.specs.declared.pool.Waiting.the-variants.{Empty, One}
 use Rattle.table.specs.declared.stepping.Stepped.{Stepped}
 use Rattle.table.specs.declared.table.Table.{Table}
 use Rattle.table.specs.Sound.{tableSound}
-use Rattle.table.specs.Table.{stationAt, waitingAt, receiverOf, lowestEmpty}
 use Rattle.table.specs.Fresh.{seatsTo, freshOf as freshTableOf}
 use Rattle.table.specs.Lent.{told, left, sendInAnswer, loseInAnswer}
-use Rattle.table.specs.Steps.{planned, stationAnswer, lowestAnswer, placeAnswer, deliverBy, loseBy, planBy, tableAnswer, planOf, applied, stepOf}
+use Rattle.table.specs.Steps.{planned, stationAnswer, lowestAnswer, placeAnswer, deliverBy, loseBy, planWith, planAt, planBy, tableAnswer, planOf, applied, stepOf}
 use Rattle.table.specs.Way.{onTheWay, atStations}
 use Rattle.script.specs.declared.lines.Line.{Line}
 use Rattle.script.specs.declared.lines.Line.the-variants.{NoStep, OneStep}
@@ -103,16 +102,20 @@ loses : (p : ℕ) (w : Waiting) → RefusedPlan (loseBy p w)
 loses p Empty f = (refl, refl, refl, refl, refl, refl)
 loses p (One m) f = done-plan _ refl f
 
-plan-by : (t : Table) (step : Step) → RefusedPlan (planBy t step)
-plan-by t (Add k amount) = no-plan (stationAnswer k (t .count) (addOf (stationAt t k) amount)) _ (done-plan _ refl)
-plan-by t (Draw k amount) = no-plan (stationAnswer k (t .count) (drawOf (stationAt t k) amount)) _ (done-plan _ refl)
-plan-by t (Send from to) = no-plan (lowestAnswer from (t .count) (showOf (stationAt t from) to) (lowestEmpty (t .pool))) _ (done-plan _ refl)
-plan-by t (Deliver p) = no-plan (placeAnswer p) _ (delivers (waitingAt t p) (stationAt t (receiverOf (waitingAt t p))))
-plan-by t (Lose p) = no-plan (placeAnswer p) _ (loses p (waitingAt t p))
+plan-with : (count : ℕ) (step : Step) (s : Station) (w : Waiting) (free : ℕ) → RefusedPlan (planWith count step s w free)
+plan-with count (Add k amount) s w free = no-plan (stationAnswer k count (addOf s amount)) _ (done-plan _ refl)
+plan-with count (Draw k amount) s w free = no-plan (stationAnswer k count (drawOf s amount)) _ (done-plan _ refl)
+plan-with count (Send from to) s w free = no-plan (lowestAnswer from count (showOf s to) free) _ (done-plan _ refl)
+plan-with count (Deliver p) s w free = no-plan (placeAnswer p) _ (delivers w s)
+plan-with count (Lose p) s w free = no-plan (placeAnswer p) _ (loses p w)
+
+plans-at : (refusal count : ℕ) (step : Step) (s : Station) (w : Waiting) (free : ℕ) → RefusedPlan (planAt refusal count step s w free)
+unfolding planAt
+plans-at refusal count step s w free = no-plan refusal (planWith count step s w free) (plan-with count step s w free)
 
 plans : (t : Table) (step : Step) → RefusedPlan (planOf t step)
 unfolding planOf
-plans t step = no-plan (tableAnswer t) (planBy t step) (plan-by t step)
+plans t step = no-plan (tableAnswer t) (planBy t step) (plan-with (t .count) step _ _ _)
 
 -- a plan that changes nothing leaves the table
 applies : (t : Table) (p : Plan) → RefusedPlan p → RefusedAsTable t (record { answer = p .answer; result = p .result; report = p .report; table = applied t p })
@@ -191,6 +194,7 @@ demand1 =
           into-bytes (messageFits numbers) noRecord (writeAnswer m (length before)) (bytesOf m) before;
       fresh-table = makes;
       plan-for = plans;
+      plan-at = plans-at;
       step = steps;
       on-the-way = λ t. no-sum (tableSound t) (onTheWay t);
       at-stations = λ t. no-sum (tableSound t) (atStations t);

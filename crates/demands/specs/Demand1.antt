@@ -1,7 +1,8 @@
 -- Demand 1, as one list: what a refusal is, for each public function that has an answer. Where the answer is not 0, the result is 0, the report is empty, and
 -- everything lent is as it was; a refused making or reading hands back every number 0 and nothing held. The numbers are the answers that can occur, in their
 -- order. It is stated of the definitions that the promises cite.
--- Not listed: `count_is_sound`, `station_is_sound`, `message_is_sound`, `clocks_agree`. They are tests, and refuse nothing.
+-- Not listed: `count_is_sound`, `station_is_sound`, `message_is_sound`, `table_is_sound`, `clocks_agree`, `needs_place`. They are tests, and refuse nothing.
+-- Not listed: `place_looked_at`, `station_looked_at`, `lowest_empty`. They find an index, and refuse nothing.
 -- Not listed: `blank_station`, `no_message`, `no_report`. They make what they are told to, and refuse nothing.
 -- Not listed: `qm_last_result`. It has no answer: it is a run of steps for the benchmark.
 -- Not listed: `fill`. It has no answer: what it prints of a step is the answer and the result of an advance.
@@ -28,6 +29,7 @@ use Rattle.table.specs.declared.planning.Change.the-variants.{Nothing}
 use Rattle.table.specs.declared.planning.Plan.{Plan}
 use Rattle.table.specs.declared.planning.Step.{Step}
 use Rattle.table.specs.declared.pool.Place.{Place}
+use Rattle.table.specs.declared.pool.Waiting.{Waiting}
 use Rattle.table.specs.declared.pool.Waiting.the-variants.{Empty}
 use Rattle.table.specs.declared.stepping.Stepped.{Stepped}
 use Rattle.table.specs.declared.table.Table.{Table}
@@ -35,7 +37,7 @@ use Rattle.table.specs.declared.way.Summed.{Summed}
 use Rattle.table.specs.Table.{mostPlaces}
 use Rattle.table.specs.Fresh.{freshOf as freshTableOf}
 use Rattle.table.specs.Lent.{cleared, sendInTold, sendInPool, loseInTold, loseInPool}
-use Rattle.table.specs.Steps.{planOf, stepOf}
+use Rattle.table.specs.Steps.{planAt, planOf, stepOf}
 use Rattle.table.specs.Way.{onTheWay, atStations, asked}
 use Rattle.script.specs.declared.filling.Run.{Run}
 use Rattle.script.specs.Decimal.{says}
@@ -113,7 +115,9 @@ pub record Demand1 : Type 0 where
   pub fresh-table : (count : ℕ) → RefusedAsTable noTable (freshTableOf count)
   -- 1, then those of an add, a draw, a send, a delivery or a loss: nothing is planned
   pub plan-for : (t : Table) (step : Step) → RefusedPlan (planOf t step)
-  -- the same: the table is as it was
+  -- the refusal that comes before, then the same: nothing is planned
+  pub plan-at : (refusal count : ℕ) (step : Step) (s : Station) (w : Waiting) (free : ℕ) → RefusedPlan (planAt refusal count step s w free)
+  -- those of a plan: the table is as it was
   pub step : (t : Table) (step : Step) → RefusedAsTable t (stepOf t step)
   -- 1: the sum is 0
   pub on-the-way : (t : Table) → RefusedSum (asked t (onTheWay t))

@@ -9,6 +9,7 @@ use Rattle.station.specs.declared.held.Slot.{Slot}
 use Rattle.station.specs.declared.held.Token.{Token}
 use Rattle.station.specs.declared.message.Message.{Message}
 use Rattle.station.specs.declared.station.Station.{Station}
+use Rattle.station.specs.Limits.{mostStations}
 use Rattle.station.specs.Outcome.{noReport}
 use Rattle.station.specs.Rules.{agree}
 use Rattle.station.specs.Sound.{countSound, stationSound, messageSound}
@@ -21,10 +22,13 @@ use Rattle.quynhabet.specs.Exports.{Gives, freshBy, addBy, drawBy, showBy, rece
 use Rattle.table.specs.declared.lent.Pooled.{Pooled}
 use Rattle.table.specs.declared.planning.Step.{Step}
 use Rattle.table.specs.declared.pool.Place.{Place}
+use Rattle.table.specs.declared.pool.Waiting.{Waiting}
 use Rattle.table.specs.declared.table.Table.{Table}
 use Rattle.table.specs.Fresh.{freshOf as freshTableOf}
 use Rattle.table.specs.Lent.{sendInTold, sendInPool, loseInTold, loseInPool}
-use Rattle.table.specs.Steps.{planOf, stepOf}
+use Rattle.table.specs.Sound.{tableSound}
+use Rattle.table.specs.Steps.{needsPlace, placeLookedAt, planAt, planOf, stationLookedAt, stepOf}
+use Rattle.table.specs.Table.{below, lowestEmpty, mostPlaces}
 use Rattle.table.specs.Way.{onTheWay, atStations, asked}
 use Rattle.measure.specs.Steps.{lastResult}
 use Rattle.script.specs.Running.{openOf, advanceOf}
@@ -67,11 +71,18 @@ pub record Settled : Type 0 where
   pub qb-record-write : (numbers before : List ℕ) → SettlesBoth (Gives (writeBy numbers before))
   -- a table
   pub fresh-table : (count : ℕ) → Settles (λ r. r ≡ freshTableOf count)
+  pub table-is-sound : (t : Table) → Settles (λ r. r ≡ tableSound t)
   pub plan-for : (t : Table) (step : Step) → Settles (λ r. r ≡ planOf t step)
+  pub plan-at : (refusal count : ℕ) (step : Step) (s : Station) (w : Waiting) (free : ℕ) → Settles (λ r. r ≡ planAt refusal count step s w free)
   pub step : (t : Table) (step : Step) → Settles (λ r. r ≡ stepOf t step)
   pub on-the-way : (t : Table) → Settles (λ r. r ≡ asked t (onTheWay t))
   pub at-stations : (t : Table) → Settles (λ r. r ≡ asked t (atStations t))
   pub qm-last-result : (count : ℕ) (codes : List ℕ) → Settles (λ r. r ≡ lastResult (freshTableOf count .table) 0 codes)
+  -- what of a table a step looks at
+  pub place-looked-at : (step : Step) → Settles (λ r. r ≡ below (placeLookedAt step) mostPlaces)
+  pub station-looked-at : (step : Step) (w : Waiting) → Settles (λ r. r ≡ below (stationLookedAt step w) mostStations)
+  pub needs-place : (step : Step) → Settles (λ r. r ≡ needsPlace step)
+  pub lowest-empty : (pool : List Place) → Settles (λ r. r ≡ lowestEmpty pool)
   -- a pool, lent and by value
   pub send-in : (pool : List Place) (m : Message) → SettlesBoth (λ r after. (r ≡ sendInTold pool) × (after ≡ sendInPool pool m))
   pub lose-in : (pool : List Place) (p : ℕ) → SettlesBoth (λ r after. (r ≡ loseInTold pool p) × (after ≡ loseInPool pool p))

@@ -42,7 +42,7 @@ unfolding advanceOf
 advance-keeps script t at e = line-keeps t (lineOf (lineAt script at)) e
 
 -- a position within the script moves on, and not past the end
-onward-by : (at i n : ℕ) (inside : Bool) → at < n → at < cond inside (at + i + 1) n
+pub onward-by : (at i n : ℕ) (inside : Bool) → at < n → at < cond inside (at + i + 1) n
 onward-by at i n true h = omega arith
 onward-by at i n false h = h
 
@@ -50,10 +50,7 @@ advance-onward : (script : List ℕ) (t : Table) (at : ℕ) → at < length scri
 unfolding advanceOf
 advance-onward script t at h = onward-by at (indexOf 10 (drop at script)) (length script) (ltb (indexOf 10 (drop at script)) (length (drop at script))) h
 
-pub step-less : (script : List ℕ) (next : Run) {r : Run} → r ≡ steppedRun script next → next .at < length script → length script - r .at < length script - next .at
-step-less script next e l = rw e (omega (arith, advance-onward script (next .table) (next .at) l))
-
-nothing-filled : (script : List ℕ) (run : Run) (bytes : List ℕ) → Filled script run (unfilled run) bytes
+pub nothing-filled : (script : List ℕ) (run : Run) (bytes : List ℕ) → Filled script run (unfilled run) bytes
 nothing-filled script run bytes = record { room = omega arith; onward = omega arith; sound = λ e. e; says = λ e. refl }
 
 module _ (script : List ℕ) (run next : Run) (bytes : List ℕ) (f : Filled script run next bytes) (going : next .finished ≡ false) where
@@ -89,10 +86,6 @@ module _ (script : List ℕ) (run next : Run) (bytes : List ℕ) (f : Filled scr
 
   pub end-turn : {r : Run} {bytes′ : List ℕ} → length script ≤ next .at → next .size + closingRoom ≤ length bytes → (r ≡ closedRun next) × (bytes′ ≡ sets bytes (next .size) (closingOf (next .table))) → Filled script run r bytes′
   end-turn l h e = rw (e .0, e .1) (end-filled l (omega (arith, length-closing (next .table))))
-
--- a run counts from where it was last filled
-from-unfilled : (script : List ℕ) (run next : Run) (bytes : List ℕ) → Filled script (unfilled run) next bytes → Filled script run next bytes
-from-unfilled script run next bytes f = record { room = f .room; onward = f .onward; sound = f .sound; says = f .says }
 
 -- the tests before a step and before the closing lines
 pub may-step : (finished : Bool) (at n number left : ℕ) → (not finished && ltb at n && ltb number lastNumber && leb stepRoom left) ≡ true → (finished ≡ false) × (at < n) × (number < lastNumber) × (stepRoom ≤ left)
@@ -134,9 +127,3 @@ all-put next e going = let z : _≡_ {A = ℕ} 0 1 = cc (rw e at going) in omega
 
 pub step-put : (script : List ℕ) (run : Run) (a : Advanced) (size : ℕ) (bytes bytes′ : List ℕ) → a ≡ advanceOf script (run .table) (run .at) → (size ≡ run .size + length (says (run .number) (a .answer) (a .result))) × (bytes′ ≡ sets bytes (run .size) (says (run .number) (a .answer) (a .result))) → (record { table = a .table; at = a .at; number = run .number + 1; size = size; finished = false } ≡ steppedRun script run) × (bytes′ ≡ sets bytes (run .size) (stepSays script run))
 step-put script run a size bytes bytes′ e f = rw (← e) (rw (f .0), f .1)
-
-pub begun : {script : List ℕ} (run : Run) {next : Run} {bytes : List ℕ} → next ≡ unfilled run → Filled script next next bytes
-begun {script} run {next} {bytes} e = rw e (nothing-filled script (unfilled run) bytes)
-
-pub ended : {script : List ℕ} (run : Run) {first next : Run} {bytes : List ℕ} → first ≡ unfilled run → Filled script first next bytes → Filled script run next bytes
-ended {script} run {first} {next} {bytes} e f = from-unfilled script run next bytes (rw e at f)

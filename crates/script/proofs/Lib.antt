@@ -8,6 +8,7 @@ pub mod Lengths
 pub mod Closings
 pub mod Runs
 pub mod Fills
+pub mod InPlace
 pub mod Starts
 pub mod Whole
 pub mod Samples

@@ -4,6 +4,7 @@ use mathlib.Core.Path.{_≡_}
 use mathlib.Core.Bool.{true, false, cond}
 use mathlib.Core.List.{List, [], _++_}
 use lib.ListN.{length, take}
+use Rattle.table.specs.declared.table.Table.{Table}
 use Rattle.table.specs.Sound.{tableSound}
 use Rattle.script.specs.declared.filling.Run.{Run}
 use Rattle.script.specs.Decimal.{says}
@@ -26,6 +27,10 @@ owed script run = cond (run .finished) [] (owedFrom script (run .table) (run .nu
 -- a run with nothing put yet
 abbrev pub unfilled : Run → Run
 unfilled run = record { table = run .table; at = run .at; number = run .number; size = 0; finished = run .finished }
+
+-- a run that is not finished
+abbrev pub unfinished : Table → ℕ → ℕ → ℕ → Run
+unfinished table at number size = record { table = table; at = at; number = number; size = size; finished = false }
 
 -- the line that the next step prints, and the run past it
 abbrev pub stepSays : List ℕ → Run → List ℕ

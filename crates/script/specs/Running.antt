@@ -1,14 +1,19 @@
 -- A script taken line by line: where a line starts and ends, what opening does, and what taking the next line does.
 use Prim.Native.Nat.{ℕ, zero, suc, _+_}
-use mathlib.Core.Bool.{cond}
+use mathlib.Core.Bool.{Bool, cond, not}
 use mathlib.Core.List.{List}
 use lib.Dec.{ltb}
 use lib.ListN.{length, drop}
-use Rattle.station.specs.Answers.{badLine, longScript}
+use Rattle.station.specs.Answers.{done, notSound, badLine, longScript}
+use Rattle.station.specs.Outcome.{first}
+use Rattle.table.specs.declared.planning.Step.{Step}
+use Rattle.table.specs.declared.planning.Step.the-variants.{Lose}
 use Rattle.table.specs.declared.table.Table.{Table}
 use Rattle.table.specs.Fresh.{blankTable, freshOf}
 use Rattle.script.specs.declared.words.Numeral.{Numeral}
 use Rattle.script.specs.declared.words.Numeral.the-variants.{Unreadable, Reads}
+use Rattle.script.specs.declared.lines.Line.{Line}
+use Rattle.script.specs.declared.lines.Line.the-variants.{NoStep, OneStep}
 use Rattle.script.specs.declared.running.Opened.{Opened}
 use Rattle.script.specs.declared.running.Advanced.{Advanced}
 use Rattle.script.specs.Words.{indexOf, upTo}
@@ -45,6 +50,15 @@ unfoldable pub advanceOf : List ℕ → Table → ℕ → Advanced
 advanceOf script t at =
     let s = lineStep t (lineOf (lineAt script at)) in
     record { answer = s .answer; result = s .result; table = s .table; at = pastLine script at }
+
+-- What refuses a line before anything is looked up for it: 12, then 1. The step that it asks for; one that is no step is refused whatever it asks for.
+abbrev pub refusalOf : Line → Bool → ℕ
+refusalOf NoStep sound = badLine
+refusalOf (OneStep step) sound = first (not sound) notSound done
+
+abbrev pub askedBy : Line → Step
+askedBy NoStep = Lose 0
+askedBy (OneStep step) = step
 
 -- what is printed from step number n on, for the script from a position on
 unfoldable pub owedFrom : List ℕ → Table → ℕ → ℕ → List ℕ

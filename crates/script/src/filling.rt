@@ -4,12 +4,24 @@ ghost use Prim.Native.Nat.{_+_, _<_, _≤_};
 ghost use lib.ListN.{length};
 ghost use lib.Seq.{sets};
 ghost use Rattle.script.specs.Closing.{closingOf, closingRoom};
-ghost use Rattle.script.specs.Filling.{closedRun, Filled, lastNumber, NoRoom, Started, stepRoom, stepSays, steppedRun, unfilled};
+ghost use Rattle.script.specs.Filling.{closedRun, Filled, NoRoom, Started, stepRoom, unfilled, unfinished};
 use crate::closing::put_closing;
+use crate::lines::line_of;
 use crate::printing::put_says;
-use crate::running::advance;
+use crate::running::asked_by;
+use crate::running::line_at;
 use crate::running::open;
+use crate::running::past_line;
+use crate::running::refusal_of;
 use station::answers;
+use table::planning::Change;
+use table::planning::needs_place;
+use table::planning::place_looked_at;
+use table::planning::plan_at;
+use table::planning::station_looked_at;
+use table::pool::Place;
+use table::pool::lowest_empty;
+use table::sound::table_is_sound;
 use table::table::Table;
 
 // The number that no step is past.
@@ -72,24 +84,6 @@ pub fn start(script: &[u8], out: &mut [u8]) -> Run
     }
 }
 
-// The next step's line.
-fn put_step(script: &[u8], run: Run, out: &mut [u8]) -> Run
-    requires { ⌜ (run .number < lastNumber) × (run .size + stepRoom ≤ length (now out)) ⌝ }
-    ensures { λ r. ⌜ (r ≡ steppedRun (now (script .entry)) run) × (now (out .exit) ≡ sets (now (out .entry)) (run .size) (stepSays (now (script .entry)) run)) ⌝ }
-{
-    let table = run.table;
-    let next = advance(script, table, run.at);
-    let size = put_says(out, run.size, run.number, next.answer as u64, next.result);
-    let table = next.table;
-    Run {
-        table,
-        at: next.at,
-        number: run.number + 1,
-        size,
-        finished: false,
-    }
-}
-
 // The closing lines.
 fn put_end(run: Run, out: &mut [u8]) -> Run
     requires { ⌜ run .size + closingRoom ≤ length (now out) ⌝ }
@@ -106,19 +100,72 @@ fn put_end(run: Run, out: &mut [u8]) -> Run
     }
 }
 
+// A run that is not finished.
+fn unfinished(table: Table, at: usize, number: u64, size: usize) -> Run
+    ensures { λ r. ⌜ r ≡ unfinished table at number size ⌝ }
+{
+    Run {
+        table,
+        at,
+        number,
+        size,
+        finished: false,
+    }
+}
+
+// The lines of the steps from a position on, while there is room. A table is large, and a call copies what it is given. So no call in the loop is given the
+// table: it is tested once, since steps keep it sound, and each step changes its one station or place right here.
+fn put_lines(script: &[u8], t: Table, start: usize, first: u64, out: &mut [u8]) -> Run
+    ensures { λ r. ⌜ Filled (now (script .entry)) (unfinished t start first 0) r (now (out .exit)) × (r .at < length (now (script .entry)) → NoRoom stepRoom r (now (out .exit))) ⌝ }
+{
+    let sound = table_is_sound(t);
+    let mut table = t;
+    let mut at = start;
+    let mut number = first;
+    let mut size: usize = 0;
+    while (at < script.len()) & (number < LAST_NUMBER) & (64 <= out.len() - size) {
+        let line = line_of(line_at(script, at));
+        let asked = asked_by(line);
+        let place = table.pool[place_looked_at(asked)];
+        let waiting = place.waiting;
+        let s = table.stations[station_looked_at(asked, waiting)];
+        let free = if needs_place(asked) {
+            let pool = table.pool;
+            lowest_empty(pool)
+        } else {
+            64
+        };
+        let refusal = refusal_of(line, sound);
+        let plan = plan_at(refusal, table.count, asked, s, waiting, free);
+        let to = plan.at;
+        let change = plan.change;
+        match change {
+            Change::Nothing => {}
+            Change::AtStation => {
+                let station = plan.station;
+                table.stations[to] = station;
+            }
+            Change::AtPlace => {
+                let waiting = plan.waiting;
+                table.pool[to] = Place { waiting };
+            }
+        }
+        size = put_says(out, size, number, plan.answer as u64, plan.result);
+        at = past_line(script, at);
+        number = number + 1;
+    }
+    unfinished(table, at, number, size)
+}
+
 // The lines of steps while there is room.
 fn put_steps(script: &[u8], run: Run, out: &mut [u8]) -> Run
     ensures { λ r. ⌜ Filled (now (script .entry)) run r (now (out .exit)) × (r .at < length (now (script .entry)) → NoRoom stepRoom r (now (out .exit))) ⌝ }
 {
-    let mut next = unfill(run);
-    while !next.finished
-        & (next.at < script.len())
-        & (next.number < LAST_NUMBER)
-        & (64 <= out.len() - next.size)
-    {
-        next = put_step(script, next, out);
+    if run.finished {
+        return unfill(run);
     }
-    next
+    let table = run.table;
+    put_lines(script, table, run.at, run.number, out)
 }
 
 // The lines of steps, and behind the last step the closing lines, while there is room.

@@ -2,7 +2,7 @@
 ghost use mathlib.Core.Path.{_≡_};
 ghost use lib.ListN.{drop};
 ghost use Rattle.script.specs.Script.{lineStep};
-ghost use Rattle.script.specs.Running.{advanceOf, lineAt, notOpened, openOf, pastLine};
+ghost use Rattle.script.specs.Running.{advanceOf, askedBy, lineAt, notOpened, openOf, pastLine, refusalOf};
 use crate::lines::Line;
 use crate::lines::line_of;
 use crate::lines::stations_of;
@@ -11,6 +11,7 @@ use crate::words::index_of;
 use station::answers;
 use station::outcome::no_report;
 use table::fresh::fresh_table;
+use table::planning::Step;
 use table::stepping::Stepped;
 use table::stepping::step;
 use table::table::Table;
@@ -41,7 +42,7 @@ fn left_from(script: &[u8], at: usize) -> &[u8]
 }
 
 // The line that starts at a position, without its line end.
-fn line_at(script: &[u8], at: usize) -> &[u8]
+pub(crate) fn line_at(script: &[u8], at: usize) -> &[u8]
     ensures { λ r. ⌜ now r ≡ lineAt (now (script .entry)) at ⌝ }
 {
     let rest = left_from(script, at);
@@ -50,7 +51,7 @@ fn line_at(script: &[u8], at: usize) -> &[u8]
 }
 
 // The position past the line that starts at a position.
-fn past_line(script: &[u8], at: usize) -> usize
+pub(crate) fn past_line(script: &[u8], at: usize) -> usize
     ensures { λ r. ⌜ r ≡ pastLine (now (script .entry)) at ⌝ }
 {
     let rest = left_from(script, at);
@@ -113,6 +114,29 @@ fn line_step(t: Table, line: Line) -> Stepped
         };
     };
     step(t, asked)
+}
+
+// What refuses a line before anything is looked up for it: 12, and then 1.
+pub(crate) fn refusal_of(line: Line, sound: bool) -> u8
+    ensures { λ r. ⌜ r ≡ refusalOf line sound ⌝ }
+{
+    let Line::OneStep(_) = line else {
+        return answers::BAD_LINE;
+    };
+    if !sound {
+        return answers::NOT_SOUND;
+    }
+    answers::DONE
+}
+
+// The step that a line asks for. A line that is no step is refused, whatever is looked up for it.
+pub(crate) fn asked_by(line: Line) -> Step
+    ensures { λ r. ⌜ r ≡ askedBy line ⌝ }
+{
+    let Line::OneStep(asked) = line else {
+        return Step::Lose(0);
+    };
+    asked
 }
 
 // The line that starts at a position, done as a step. Past the script's end stands an empty line, which is no step.

@@ -13,7 +13,7 @@ use Rattle.station.specs.Limits.{mostStations}
 use Rattle.station.specs.Outcome.{orElse}
 use Rattle.station.specs.Side.{sideFor}
 use Rattle.station.specs.Taking.{takeOf}
-use Rattle.station.specs.Steps.{showOf, receiveAnswer, received as told, receiveOf}
+use Rattle.station.specs.Steps.{addOf, drawOf, showOf, receiveAnswer, received as told, receiveOf}
 use Rattle.station.proofs.Parts.{message-parts}
 use Rattle.station.proofs.Answering.{passed, answer-told, received}
 use Rattle.table.specs.declared.pool.Waiting.{Waiting}
@@ -25,7 +25,7 @@ use Rattle.table.specs.declared.table.Table.{Table}
 use Rattle.table.specs.Table.{mostPlaces, below, stationAt, waitingAt, receiverOf, lowestEmpty}
 use Rattle.table.specs.Sound.{tableSound}
 use Rattle.table.specs.Steps.{refusedPlan, stationPlan, placePlan, planned, stationAnswer, atStation, lowestAnswer, atLowest, placeAnswer, deliverAt, deliverBy, loseAt, loseBy}
-use Rattle.table.specs.Steps.{planBy, tableAnswer, planOf, Applies}
+use Rattle.table.specs.Steps.{placeLookedAt, stationLookedAt, needsPlace, planWith, planAt, planBy, tableAnswer, planOf, Applies}
 use Rattle.table.proofs.Tables.{table-parts}
 
 pub plan-done : {n : ℕ} (p : Plan) → n ≡ 0 → p ≡ planned n p
@@ -121,15 +121,6 @@ pub plan-applies : (t : Table) (step : Step) → Applies (planOf t step)
 unfolding planOf
 plan-applies t step = plan-by (tableAnswer t) (planBy t step) (λ e. by-applies t step (not-false _ (passed (not (tableSound t)) 0 e .0)))
 
--- an arm of the match on a step
-pub arm : (t : Table) {step step′ : Step} → tableSound t ≡ true → step ≡ step′ → planBy t step′ ≡ planOf t step
-unfolding planOf
-arm t e s = rw (s, e)
-
-pub unsound : (t : Table) (step : Step) → tableSound t ≡ false → refusedPlan 1 ≡ planOf t step
-unfolding planOf
-unsound t step e = rw e
-
 pub below-lt : (n limit : ℕ) → 0 < limit → below n limit < limit
 below-lt n limit h = below-by (ltb n limit) refl
   where
@@ -140,3 +131,37 @@ below-lt n limit h = below-by (ltb n limit) refl
 pub receiver-lt : (w : Waiting) → receiverOf w < mostStations
 receiver-lt Empty = omega arith
 receiver-lt (One m) = below-lt (m .to) mostStations (omega arith)
+
+-- what a step looks at, found by indices: the plan is the one of the table
+looked-by : (t : Table) (step : Step) (free : ℕ) → t .count ≤ mostStations → (needsPlace step ≡ true → free ≡ lowestEmpty (t .pool))
+    → let w = waitingAt t (below (placeLookedAt step) mostPlaces) in
+    planWith (t .count) step (stationAt t (below (stationLookedAt step w) mostStations)) w free ≡ planBy t step
+looked-by t (Add k a) free most f = at-station-any k (t .count) most (λ i. addOf (stationAt t i) a)
+looked-by t (Draw k a) free most f = at-station-any k (t .count) most (λ i. drawOf (stationAt t i) a)
+looked-by t (Send from to) free most f = rw (f refl) (at-lowest-any from (t .count) most (λ i. showOf (stationAt t i) to) (lowestEmpty (t .pool)))
+looked-by t (Deliver p) free most f = rw (lt-ltb (receiverOf (waitingAt t (below p mostPlaces))) mostStations (receiver-lt (waitingAt t (below p mostPlaces)))) (deliver-any p (λ i. waitingAt t i) (λ v. stationAt t (receiverOf v)))
+looked-by t (Lose p) free most f = lose-any p (λ i. waitingAt t i)
+
+-- The same with the refusal that comes first, for any table.
+pub plan-looked : (t : Table) (step : Step) (free : ℕ) → (needsPlace step ≡ true → free ≡ lowestEmpty (t .pool))
+    → let w = waitingAt t (below (placeLookedAt step) mostPlaces) in
+    planAt (tableAnswer t) (t .count) step (stationAt t (below (stationLookedAt step w) mostStations)) w free ≡ planOf t step
+unfolding planAt planOf
+plan-looked t step free f = by (tableSound t) refl
+  where
+    by : (b : Bool) → tableSound t ≡ b
+        → let w = waitingAt t (below (placeLookedAt step) mostPlaces) in
+        planned (tableAnswer t) (planWith (t .count) step (stationAt t (below (stationLookedAt step w) mostStations)) w free) ≡ planned (tableAnswer t) (planBy t step)
+    by true e = rw e (looked-by t step free (table-parts t e .most) f)
+    by false e = rw e
+
+pub plan-found : (t : Table) (step : Step) (refusal i k free : ℕ) → refusal ≡ tableAnswer t → i ≡ below (placeLookedAt step) mostPlaces → k ≡ below (stationLookedAt step (waitingAt t i)) mostStations → (needsPlace step ≡ true → free ≡ lowestEmpty (t .pool))
+    → planAt refusal (t .count) step (stationAt t k) (waitingAt t i) free ≡ planOf t step
+plan-found t step refusal i k free r e f g = rw (r, f, e) (plan-looked t step free g)
+
+pub answers-done : (t : Table) → tableSound t ≡ true → 0 ≡ tableAnswer t
+answers-done t e = rw e
+
+pub unsound : (t : Table) (step : Step) → tableSound t ≡ false → refusedPlan 1 ≡ planOf t step
+unfolding planOf
+unsound t step e = rw e

@@ -1,6 +1,6 @@
 -- The steps of a table: what each answers, under which conditions in which order, and what it changes.
 use Prim.Native.Nat.{ℕ, zero, suc, _<_}
-use mathlib.Core.Bool.{not}
+use mathlib.Core.Bool.{Bool, true, false, not}
 use lib.Dec.{ltb}
 use Rattle.station.specs.declared.station.Station.{Station}
 use Rattle.station.specs.declared.message.Shown.{Shown}
@@ -71,12 +71,45 @@ loseBy p (One m) = placePlan p 0 Empty
 abbrev pub loseAt : ℕ → Waiting → Plan
 loseAt p w = planned (placeAnswer p) (loseBy p w)
 
+-- the place that a step looks at, and the station, for what waits at that place; 0 where it looks at none
+abbrev pub placeLookedAt : Step → ℕ
+placeLookedAt (Add k amount) = 0
+placeLookedAt (Draw k amount) = 0
+placeLookedAt (Send from to) = 0
+placeLookedAt (Deliver p) = p
+placeLookedAt (Lose p) = p
+
+abbrev pub stationLookedAt : Step → Waiting → ℕ
+stationLookedAt (Add k amount) w = k
+stationLookedAt (Draw k amount) w = k
+stationLookedAt (Send from to) w = from
+stationLookedAt (Deliver p) w = receiverOf w
+stationLookedAt (Lose p) w = 0
+
+-- only a send asks for the lowest-numbered empty place
+abbrev pub needsPlace : Step → Bool
+needsPlace (Add k amount) = false
+needsPlace (Draw k amount) = false
+needsPlace (Send from to) = true
+needsPlace (Deliver p) = false
+needsPlace (Lose p) = false
+
+-- a step by what it looks at: the count, the station, what waits at the place, and the lowest-numbered empty place
+abbrev pub planWith : ℕ → Step → Station → Waiting → ℕ → Plan
+planWith count (Add k amount) s w free = atStation k count (addOf s amount)
+planWith count (Draw k amount) s w free = atStation k count (drawOf s amount)
+planWith count (Send from to) s w free = atLowest from count (showOf s to) free
+planWith count (Deliver p) s w free = deliverAt p w s
+planWith count (Lose p) s w free = loseAt p w
+
+-- the same, where nothing that comes before refuses the step
+unfoldable pub planAt : ℕ → ℕ → Step → Station → Waiting → ℕ → Plan
+planAt refusal count step s w free = planned refusal (planWith count step s w free)
+
 abbrev pub planBy : Table → Step → Plan
-planBy t (Add k amount) = atStation k (t .count) (addOf (stationAt t k) amount)
-planBy t (Draw k amount) = atStation k (t .count) (drawOf (stationAt t k) amount)
-planBy t (Send from to) = atLowest from (t .count) (showOf (stationAt t from) to) (lowestEmpty (t .pool))
-planBy t (Deliver p) = deliverAt p (waitingAt t p) (stationAt t (receiverOf (waitingAt t p)))
-planBy t (Lose p) = loseAt p (waitingAt t p)
+planBy t step =
+    let w = waitingAt t (placeLookedAt step) in
+    planWith (t .count) step (stationAt t (stationLookedAt step w)) w (lowestEmpty (t .pool))
 
 -- 1 comes first
 abbrev pub tableAnswer : Table → ℕ

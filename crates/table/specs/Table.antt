@@ -19,8 +19,11 @@ mostPlaces = 64
 abbrev noStation : Station
 noStation = record { number = 0; count = 0; value = 0; intake = 0; source = record { 0 = 0 }; destination = record { 0 = 0 }; slots = []; tokens = [] }
 
+abbrev pub stationIn : List Station → ℕ → Station
+stationIn stations k = getD stations k noStation
+
 abbrev pub stationAt : Table → ℕ → Station
-stationAt t k = getD (t .stations) k noStation
+stationAt t k = stationIn (t .stations) k
 
 abbrev pub placeIn : List Place → ℕ → Waiting
 placeIn pool p = getD pool p (record { waiting = Empty }) .waiting

@@ -3,7 +3,7 @@ pub mod fresh;
 pub mod lent;
 pub mod planning;
 pub mod pool;
-mod sound;
+pub mod sound;
 pub mod stepping;
 pub mod table;
 pub mod way;

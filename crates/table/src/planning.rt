@@ -2,8 +2,8 @@
 ghost use mathlib.Core.Path.{_≡_};
 ghost use Prim.Native.Nat.{_<_};
 ghost use Rattle.station.specs.Limits.{mostStations};
-ghost use Rattle.table.specs.Table.{below, receiverOf};
-ghost use Rattle.table.specs.Steps.{refusedPlan, stationPlan, placePlan, atStation, atLowest, deliverAt, loseAt, planOf};
+ghost use Rattle.table.specs.Table.{below, mostPlaces, receiverOf};
+ghost use Rattle.table.specs.Steps.{refusedPlan, stationPlan, placePlan, atStation, atLowest, deliverAt, loseAt, placeLookedAt, stationLookedAt, needsPlace, planAt, planOf};
 use crate::pool::Place;
 use crate::pool::Waiting;
 use crate::pool::lowest_empty;
@@ -165,6 +165,68 @@ fn lose_at(p: u64, waiting: Waiting) -> Plan
     change_place(p as usize, 0, Waiting::Empty)
 }
 
+// The place that a step looks at; the index 0 where it looks at none.
+pub fn place_looked_at(step: Step) -> usize
+    ensures { λ r. ⌜ r ≡ below (placeLookedAt step) mostPlaces ⌝ }
+{
+    match step {
+        Step::Add(_, _) => 0,
+        Step::Draw(_, _) => 0,
+        Step::Send(_, _) => 0,
+        Step::Deliver(p) => index_below(p, 64),
+        Step::Lose(p) => index_below(p, 64),
+    }
+}
+
+// The station that a step looks at, for what waits at the place that it looks at; the index 0 where it looks at none.
+pub fn station_looked_at(step: Step, waiting: Waiting) -> usize
+    ensures { λ r. ⌜ r ≡ below (stationLookedAt step waiting) mostStations ⌝ }
+{
+    match step {
+        Step::Add(k, _) => index_below(k, 16),
+        Step::Draw(k, _) => index_below(k, 16),
+        Step::Send(from, _) => index_below(from, 16),
+        Step::Deliver(_) => index_below(receiver_of(waiting) as u64, 16),
+        Step::Lose(_) => 0,
+    }
+}
+
+// Whether a step asks for the lowest-numbered empty place, so that no other step has it searched.
+pub fn needs_place(step: Step) -> bool
+    ensures { λ r. ⌜ r ≡ needsPlace step ⌝ }
+{
+    match step {
+        Step::Add(_, _) => false,
+        Step::Draw(_, _) => false,
+        Step::Send(_, _) => true,
+        Step::Deliver(_) => false,
+        Step::Lose(_) => false,
+    }
+}
+
+// What a step will do, by no more of the table than it looks at, where nothing that comes before refuses it.
+pub fn plan_at(
+    refusal: u8,
+    count: usize,
+    step: Step,
+    s: Station,
+    waiting: Waiting,
+    free: usize,
+) -> Plan
+    ensures { λ r. ⌜ r ≡ planAt refusal count step s waiting free ⌝ }
+{
+    if refusal != answers::DONE {
+        return refuse(refusal);
+    }
+    match step {
+        Step::Add(k, amount) => at_station(k, count, station::add(s, amount)),
+        Step::Draw(k, amount) => at_station(k, count, station::draw(s, amount)),
+        Step::Send(from, to) => at_lowest(from, count, station::message_for(s, to), free),
+        Step::Deliver(p) => deliver_at(p, waiting, s),
+        Step::Lose(p) => lose_at(p, waiting),
+    }
+}
+
 // What a step will do.
 pub fn plan_for(t: Table, step: Step) -> Plan
     ensures { λ r. ⌜ r ≡ planOf t step ⌝ }
@@ -172,37 +234,12 @@ pub fn plan_for(t: Table, step: Step) -> Plan
     if !table_is_sound(t) {
         return refuse(answers::NOT_SOUND);
     }
-    let count = t.count;
-    match step {
-        Step::Add(k, amount) => {
-            let i = index_below(k, 16);
-            let s = t.stations[i];
-            at_station(k, count, station::add(s, amount))
-        }
-        Step::Draw(k, amount) => {
-            let i = index_below(k, 16);
-            let s = t.stations[i];
-            at_station(k, count, station::draw(s, amount))
-        }
-        Step::Send(from, to) => {
-            let i = index_below(from, 16);
-            let s = t.stations[i];
-            let pool = t.pool;
-            at_lowest(from, count, station::message_for(s, to), lowest_empty(pool))
-        }
-        Step::Deliver(p) => {
-            let i = index_below(p, 64);
-            let place = t.pool[i];
-            let waiting = place.waiting;
-            let to = receiver_of(waiting);
-            let s = t.stations[to];
-            deliver_at(p, waiting, s)
-        }
-        Step::Lose(p) => {
-            let i = index_below(p, 64);
-            let place = t.pool[i];
-            let waiting = place.waiting;
-            lose_at(p, waiting)
-        }
-    }
+    let i = place_looked_at(step);
+    let place = t.pool[i];
+    let waiting = place.waiting;
+    let k = station_looked_at(step, waiting);
+    let s = t.stations[k];
+    let pool = t.pool;
+    let free = lowest_empty(pool);
+    plan_at(answers::DONE, t.count, step, s, waiting, free)
 }

@@ -23,7 +23,7 @@ pub(crate) fn is_empty(place: Place) -> bool
 }
 
 // The lowest-numbered empty place, or 64 where all are taken: every place before it is taken.
-pub(crate) fn lowest_empty(pool: [Place; 64]) -> usize
+pub fn lowest_empty(pool: [Place; 64]) -> usize
     ensures { λ r. ⌜ r ≡ lowestEmpty pool ⌝ }
 {
     let mut p: usize = 0;

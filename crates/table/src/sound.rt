@@ -2,8 +2,9 @@
 ghost use mathlib.Core.Path.{_≡_};
 ghost use Rattle.station.specs.Limits.{mostStations};
 ghost use Rattle.station.specs.Below.{allBelow};
-ghost use Rattle.table.specs.Table.{mostPlaces, stationAt, waitingAt};
+ghost use Rattle.table.specs.Table.{mostPlaces, placeIn, stationIn};
 ghost use Rattle.table.specs.Sound.{seatSound, placeSound, tableSound};
+use crate::pool::Place;
 use crate::pool::Waiting;
 use crate::table::Table;
 use station::sound::message_is_sound;
@@ -14,7 +15,10 @@ use station::station::Station;
 fn seat_is_sound(s: Station, k: usize, count: usize) -> bool
     ensures { λ r. ⌜ r ≡ seatSound s k count ⌝ }
 {
-    (count <= k) | (station_is_sound(s) & (s.number == k) & (s.count == count))
+    if count <= k {
+        return true;
+    }
+    station_is_sound(s) & (s.number == k) & (s.count == count)
 }
 
 fn place_is_sound(waiting: Waiting, count: usize) -> bool
@@ -26,28 +30,26 @@ fn place_is_sound(waiting: Waiting, count: usize) -> bool
     message_is_sound(m) & (m.from < count) & (m.to < count)
 }
 
-fn seats_are_sound(t: Table) -> bool
-    ensures { λ r. ⌜ r ≡ allBelow (λ k. seatSound (stationAt t k) k (t .count)) mostStations ⌝ }
+fn seats_are_sound(stations: [Station; 16], count: usize) -> bool
+    ensures { λ r. ⌜ r ≡ allBelow (λ k. seatSound (stationIn stations k) k count) mostStations ⌝ }
 {
-    let count = t.count;
     let mut sound = true;
     let mut k: usize = 0;
     while k < 16 {
-        let s = t.stations[k];
+        let s = stations[k];
         sound = sound & seat_is_sound(s, k, count);
         k = k + 1;
     }
     sound
 }
 
-fn places_are_sound(t: Table) -> bool
-    ensures { λ r. ⌜ r ≡ allBelow (λ p. placeSound (waitingAt t p) (t .count)) mostPlaces ⌝ }
+fn places_are_sound(pool: [Place; 64], count: usize) -> bool
+    ensures { λ r. ⌜ r ≡ allBelow (λ p. placeSound (placeIn pool p) count) mostPlaces ⌝ }
 {
-    let count = t.count;
     let mut sound = true;
     let mut p: usize = 0;
     while p < 64 {
-        let place = t.pool[p];
+        let place = pool[p];
         let waiting = place.waiting;
         sound = sound & place_is_sound(waiting, count);
         p = p + 1;
@@ -55,9 +57,12 @@ fn places_are_sound(t: Table) -> bool
     sound
 }
 
-pub(crate) fn table_is_sound(t: Table) -> bool
+// So that who holds a table can test it once and then do steps, which keep it sound.
+pub fn table_is_sound(t: Table) -> bool
     ensures { λ r. ⌜ r ≡ tableSound t ⌝ }
 {
     let count = t.count;
-    (2 <= count) & (count <= 16) & seats_are_sound(t) & places_are_sound(t)
+    let stations = t.stations;
+    let pool = t.pool;
+    (2 <= count) & (count <= 16) & seats_are_sound(stations, count) & places_are_sound(pool, count)
 }

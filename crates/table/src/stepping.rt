@@ -1,11 +1,7 @@
 // A step done: what it tells, and the table after it.
 ghost use mathlib.Core.Path.{_≡_};
-ghost use Prim.Native.Nat.{_<_};
-ghost use Rattle.station.specs.Limits.{mostStations};
-ghost use Rattle.table.specs.Table.{mostPlaces};
-ghost use Rattle.table.specs.Steps.{applied, stepOf, Applies};
+ghost use Rattle.table.specs.Steps.{stepOf};
 use crate::planning::Change;
-use crate::planning::Plan;
 use crate::planning::Step;
 use crate::planning::plan_for;
 use crate::pool::Place;
@@ -20,11 +16,11 @@ pub struct Stepped {
     pub table: Table,
 }
 
-// The table with what a plan changes: one station, one place, or nothing.
-pub(crate) fn apply(t: Table, p: Plan) -> Table
-    requires { ⌜ Applies p ⌝ }
-    ensures { λ r. ⌜ r ≡ applied t p ⌝ }
+// One step of a table: refused by add 1, 2, 4, 5, 10; draw 1, 2, 4; send 1, 2, 3, 6; deliver 1, 7, 8, 10; lose 1, 7, 8.
+pub fn step(t: Table, step: Step) -> Stepped
+    ensures { λ r. ⌜ r ≡ stepOf t step ⌝ }
 {
+    let p = plan_for(t, step);
     let mut next = t;
     let at = p.at;
     let change = p.change;
@@ -39,19 +35,11 @@ pub(crate) fn apply(t: Table, p: Plan) -> Table
             next.pool[at] = Place { waiting };
         }
     }
-    next
-}
-
-// One step of a table: refused by add 1, 2, 4, 5, 10; draw 1, 2, 4; send 1, 2, 3, 6; deliver 1, 7, 8, 10; lose 1, 7, 8.
-pub fn step(t: Table, step: Step) -> Stepped
-    ensures { λ r. ⌜ r ≡ stepOf t step ⌝ }
-{
-    let p = plan_for(t, step);
     let report = p.report;
     Stepped {
         answer: p.answer,
         result: p.result,
         report,
-        table: apply(t, p),
+        table: next,
     }
 }

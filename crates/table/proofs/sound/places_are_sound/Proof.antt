@@ -4,21 +4,22 @@ use borrow.Author.Needs.{needs}
 use Prim.Native.Nat.{ℕ, _≤_, _-_}
 use mathlib.Core.Bool.{Bool}
 use Rattle.station.specs.Below.{allBelow}
-use Rattle.table.specs.declared.table.Table.{Table}
+use mathlib.Core.List.{List}
+use Rattle.table.specs.declared.pool.Place.{Place}
 use Rattle.station.proofs.Below.{all-none, all-more}
-use Rattle.table.specs.Table.{waitingAt}
+use Rattle.table.specs.Table.{placeIn}
 use Rattle.table.specs.Sound.{placeSound}
 use Rattle.table.proofs.sound.places_are_sound.Statement.{statement}
 use Rattle.table.proofs.sound.places_are_sound.Tie as tie
 
-abbrev test : Table → ℕ → Bool
-test t p = placeSound (waitingAt t p) (t .count)
+abbrev test : List Place → ℕ → ℕ → Bool
+test pool count p = placeSound (placeIn pool p) count
 
 abbrev Inv-loop : tie.InvT-loop
-Inv-loop t count sound₀ p₀ sound p = (p ≤ 64) × (sound ≡ allBelow (test t) p)
+Inv-loop count pool sound₀ p₀ sound p = (p ≤ 64) × (sound ≡ allBelow (test pool count) p)
 
 abbrev μ-loop : tie.MeasureT-loop
-μ-loop t count sound₀ p₀ sound p = 64 - p
+μ-loop count pool sound₀ p₀ sound p = 64 - p
 
 loop-holds : tie.Need-loop-holds Inv-loop μ-loop
 loop-holds c = (search needs, sym (all-none _))
@@ -26,8 +27,8 @@ loop-holds c = (search needs, sym (all-none _))
 mul-place : tie.Need-mul-place Inv-loop μ-loop
 mul-place c = search needs
 
-element-copy-out-place : tie.Need-element-copy-out-place Inv-loop μ-loop
-element-copy-out-place c = search needs
+array-copy-out-place : tie.Need-array-copy-out-place Inv-loop μ-loop
+array-copy-out-place c = search needs
 
 place-is-sound-requires : tie.Need-place-is-sound-requires Inv-loop μ-loop
 place-is-sound-requires c κs = search needs
@@ -41,10 +42,10 @@ loop-less c = search needs
 loop-again : tie.Need-loop-again Inv-loop μ-loop
 loop-again c =
     let at = c .before .before .before .loop in
-    (omega arith, rw (c .place-is-sound .ensures, at .inv .1) (sym (all-more (test (c .before .before .before .before .args .t1)) (at .p))))
+    (omega arith, rw (c .place-is-sound .ensures, at .inv .1) (sym (all-more _ (at .p))))
 
 returns : tie.Need-returns Inv-loop μ-loop
-returns c = let at = c .before .loop in at .inv .1 ∙ ap (allBelow (test (c .before .before .args .t1))) (omega arith)
+returns c = c .before .loop .inv .1 ∙ ap (allBelow _) (omega arith)
 
 pub places-are-sound-spec : {M : Type 1} → statement M
 places-are-sound-spec =
@@ -54,7 +55,7 @@ places-are-sound-spec =
     μ-loop
     loop-holds
     mul-place
-    element-copy-out-place
+    array-copy-out-place
     place-is-sound-requires
     add-p
     loop-less
