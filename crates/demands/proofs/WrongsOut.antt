@@ -1,4 +1,4 @@
--- No wrong outcome of a table or of a script is what is promised. Assumes nothing.
+-- No wrong outcome of a table, of its parts, of a script or of a call from C is what is promised. Assumes nothing.
 use lib.Dec.{T}
 use Rattle.station.specs.Below.{allBelow}
 use Rattle.station.specs.Sound.{stationSound, messageSound}
@@ -7,7 +7,15 @@ use Rattle.station.specs.Steps.{addOf, drawOf, showOf, receiveOf}
 use Rattle.table.specs.Table.{firstFrom}
 use Rattle.table.specs.Sound.{tableSound}
 use Rattle.table.specs.Fresh.{seatsTo, freshOf}
-use Rattle.table.specs.Steps.{planOf, stepOf}
+use Rattle.table.specs.Steps.{planAt, planOf, stepOf}
+use Rattle.measure.specs.Steps.{lastResult}
+use Rattle.station.specs.Steps.{freshOf as freshStation}
+use Rattle.record.specs.Numbers.{big, numberAt}
+use Rattle.record.specs.Layout.{bytesOf}
+use Rattle.record.specs.Reading.{fieldAt, isRecord, readAt}
+use Rattle.record.specs.AtStation.{receiveBytesOf}
+use Rattle.quynhabet.specs.Layout.{fourFits, inTurn, numbersOf, stationOf, stationFits, messageNumbers, messageOf, messageFits}
+use Rattle.quynhabet.specs.Exports.{freshBy, addBy, drawBy, receiveBy, showBy, readBy, writeBy}
 use Rattle.handshake.specs.Sums.{sumBelow}
 use Rattle.demands.specs.Wrong.{ruledOut}
 use Rattle.script.specs.Words.{numeralOf}
@@ -15,6 +23,8 @@ use Rattle.script.specs.Lines.{lineOf, stationsOf}
 use Rattle.script.specs.Running.{openOf, advanceOf}
 use Rattle.demands.specs.WrongTables.{wrongTables}
 use Rattle.demands.specs.WrongScripts.{wrongScripts}
+use Rattle.demands.specs.WrongParts.{wrongParts}
+use Rattle.demands.specs.WrongExports.{wrongExports}
 
 pub wrong-tables-ruled-out : T (ruledOut wrongTables)
 unfolding addOf drawOf showOf receiveOf takeOf stationSound messageSound allBelow firstFrom tableSound seatsTo freshOf planOf stepOf sumBelow
@@ -23,3 +33,11 @@ wrong-tables-ruled-out = tt
 pub wrong-scripts-ruled-out : T (ruledOut wrongScripts)
 unfolding openOf advanceOf lineOf stationsOf numeralOf addOf drawOf showOf receiveOf takeOf stationSound messageSound allBelow firstFrom tableSound seatsTo freshOf planOf stepOf
 wrong-scripts-ruled-out = tt
+
+pub wrong-parts-ruled-out : T (ruledOut wrongParts)
+unfolding addOf drawOf showOf receiveOf takeOf stationSound messageSound allBelow firstFrom tableSound seatsTo freshOf planAt planOf stepOf lastResult
+wrong-parts-ruled-out = tt
+
+pub wrong-exports-ruled-out : T (ruledOut wrongExports)
+unfolding freshStation addOf drawOf receiveOf receiveBytesOf takeOf stationSound messageSound allBelow bytesOf big numberAt fieldAt isRecord readAt fourFits inTurn numbersOf stationOf stationFits messageNumbers messageOf messageFits freshBy addBy drawBy receiveBy showBy readBy writeBy
+wrong-exports-ruled-out = tt

@@ -8,3 +8,5 @@ pub mod WrongScripts
 pub mod Demand1
 pub mod Settled
 pub mod PrintedRun
+pub mod WrongParts
+pub mod WrongExports

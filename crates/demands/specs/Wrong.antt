@@ -50,22 +50,22 @@ abbrev messageOf : ℕ → Message → List ℕ
 messageOf n m =
     n ∷ m .from ∷ m .to ∷ m .value ∷ m .source .0 ∷ m .destination .0 ∷ (slotNumbers (m .slot) ++ tokenNumbers (m .token))
 
-abbrev truth : Bool → List ℕ
+abbrev pub truth : Bool → List ℕ
 truth true = 1 ∷ []
 truth false = 0 ∷ []
 
 -- station 1 of 2 with value 3 and intake 3; with a token for station 0; with a slot for station 0
-abbrev stocked : Station
+abbrev pub stocked : Station
 stocked = putStock (blank 1 2) 3 3
 
-abbrev gave : Station
+abbrev pub gave : Station
 gave = station1 3 1 0 NoSlot (token 0 0 5)
 
-abbrev asked : Station
+abbrev pub asked : Station
 asked = station1 2 0 1 (slot 0 0 5) NoToken
 
 -- a message with a token for that slot, and what it does when it is delivered again
-abbrev pays : Message
+abbrev pub pays : Message
 pays = from0 3 1 0 NoSlot (token 0 0 5)
 
 -- answer, result, then the buffer

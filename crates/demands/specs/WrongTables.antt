@@ -21,7 +21,7 @@ use Rattle.demands.specs.Samples.{station1, from0, token}
 use Rattle.demands.specs.Wrong.{Wrong}
 
 -- two stations; station 0 holds 10 and has sent its message to place 0
-abbrev sent : Table
+abbrev pub sent : Table
 sent = stepOf (stepOf (freshOf 2 .table) (Add 0 10) .table) (Send 0 1) .table
 
 -- a table in which station 1 has a token of 5 for station 0, and no slot waits for it
@@ -38,10 +38,10 @@ seen r =
     r .answer ∷ r .result ∷ stationAt (r .table) 1 .destination .0 ∷ waitingNumber (waitingAt (r .table) 0) ∷ waitingNumber (waitingAt (r .table) 1) ∷ []
 
 -- 64 empty places, and a message
-abbrev free : List Place
+abbrev pub free : List Place
 free = replicate 64 (record { waiting = Empty })
 
-abbrev hello : Message
+abbrev pub hello : Message
 hello = from0 10 0 0 NoSlot NoToken
 
 -- answer, result, whether place 0 holds a message, and how many places there are

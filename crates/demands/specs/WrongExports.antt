@@ -1,0 +1,47 @@
+-- Wrong outcomes of what C and Rust call.
+use Prim.Native.Nat.{ℕ}
+use mathlib.Core.List.{List, [], _∷_, _++_}
+use lib.ListN.{replicate, set, take}
+use Rattle.record.specs.Layout.{bytesOf}
+use Rattle.quynhabet.specs.Layout.{numbersOf, messageNumbers}
+use Rattle.quynhabet.specs.Exports.{Given, freshBy, addBy, drawBy, receiveBy, showBy, readBy, writeBy}
+use Rattle.demands.specs.Wrong.{Wrong, stocked, gave, asked, pays}
+
+-- answer, result, rules, and the first six of what was lent to be changed
+abbrev told : Given → List ℕ
+told g = (g .told .answer ∷ g .told .result ∷ g .told .rules ∷ []) ++ take 6 (g .lent)
+
+-- the numbers of a station with value and intake 3
+abbrev three : List ℕ
+three = numbersOf stocked
+
+abbrev sevens : ℕ → List ℕ
+sevens n = replicate n 7
+
+abbrev pub wrongExports : List Wrong
+wrongExports =
+    -- qb_station_fresh: leaves what was lent; hands back every number 0 where it is refused
+    record { promised = told (freshBy 1 2 (sevens 134)); wrong = 0 ∷ 0 ∷ 0 ∷ 7 ∷ 7 ∷ 7 ∷ 7 ∷ 7 ∷ 7 ∷ [] }
+    ∷ record { promised = told (freshBy 2 2 (sevens 134)); wrong = 2 ∷ 0 ∷ 0 ∷ 0 ∷ 0 ∷ 0 ∷ 0 ∷ 0 ∷ 0 ∷ [] }
+    -- qb_station_add: leaves the intake; takes numbers in a slot that is not held
+    ∷ record { promised = told (addBy 4 three); wrong = 0 ∷ 7 ∷ 0 ∷ 1 ∷ 2 ∷ 7 ∷ 3 ∷ 0 ∷ 0 ∷ [] }
+    ∷ record { promised = told (addBy 4 (set three 7 1)); wrong = 0 ∷ 7 ∷ 0 ∷ 1 ∷ 2 ∷ 7 ∷ 7 ∷ 0 ∷ 0 ∷ [] }
+    -- qb_station_draw: tells the amount asked; takes a clock that is too wide
+    ∷ record { promised = told (drawBy 5 three); wrong = 0 ∷ 5 ∷ 0 ∷ 1 ∷ 2 ∷ 0 ∷ 3 ∷ 0 ∷ 0 ∷ [] }
+    ∷ record { promised = told (drawBy 5 (set three 4 4294967296)); wrong = 0 ∷ 3 ∷ 0 ∷ 1 ∷ 2 ∷ 0 ∷ 3 ∷ 4294967296 ∷ 0 ∷ [] }
+    -- qb_station_write: tells no length; has written where it refuses
+    ∷ record { promised = told (showBy (numbersOf gave) 0 (sevens 49)); wrong = 0 ∷ 0 ∷ 0 ∷ 1 ∷ 0 ∷ 1 ∷ 1 ∷ 2 ∷ 0 ∷ [] }
+    ∷ record { promised = told (showBy (numbersOf gave) 0 (sevens 48)); wrong = 14 ∷ 0 ∷ 0 ∷ 1 ∷ 7 ∷ 7 ∷ 7 ∷ 7 ∷ 7 ∷ [] }
+    -- qb_station_receive: names no rule; fills a second time
+    ∷ record { promised = told (receiveBy (bytesOf pays) (numbersOf asked)); wrong = 0 ∷ 5 ∷ 0 ∷ 1 ∷ 2 ∷ 7 ∷ 0 ∷ 0 ∷ 1 ∷ [] }
+    ∷ record {
+      promised = told (receiveBy (bytesOf pays) (receiveBy (bytesOf pays) (numbersOf asked) .lent));
+      wrong = 0 ∷ 5 ∷ 1 ∷ 1 ∷ 2 ∷ 12 ∷ 0 ∷ 0 ∷ 1 ∷ [];
+    }
+    -- qb_record_read: swaps the two clocks; clears what was lent where it refuses
+    ∷ record { promised = told (readBy (bytesOf pays) (sevens 13)); wrong = 0 ∷ 49 ∷ 0 ∷ 0 ∷ 1 ∷ 3 ∷ 0 ∷ 1 ∷ 0 ∷ [] }
+    ∷ record { promised = told (readBy [] (sevens 13)); wrong = 9 ∷ 0 ∷ 0 ∷ 0 ∷ 0 ∷ 0 ∷ 0 ∷ 0 ∷ 0 ∷ [] }
+    -- qb_record_write: refuses a sound message; takes numbers in a slot that is not held
+    ∷ record { promised = told (writeBy (messageNumbers pays) (sevens 50)); wrong = 9 ∷ 0 ∷ 0 ∷ 7 ∷ 7 ∷ 7 ∷ 7 ∷ 7 ∷ 7 ∷ [] }
+    ∷ record { promised = told (writeBy (set (messageNumbers pays) 6 1) (sevens 50)); wrong = 0 ∷ 49 ∷ 0 ∷ 1 ∷ 0 ∷ 1 ∷ 0 ∷ 2 ∷ 0 ∷ [] }
+    ∷ []
