@@ -114,10 +114,6 @@ module _ {P Q : Type 0} {W : Web P Q} where
         asks = rw (p .destination, p .slot) (receiver-now (h .standing (m .to) (m .from)));
       }
 
-  -- two webs that are equal at every pair
-  pub same-web : {W′ : Web P Q} {Waits : Letter P Q → Type 0} {H : List (Entry P)} → ((g r : ℕ) → W g r ≡ W′ g r) → Holds W Waits H → Holds W′ Waits H
-  same-web {Waits = Waits} {H = H} e h = subst (λ (X : Web P Q). Holds X Waits H) (λ i g r. e g r i) h
-
   -- at the start nothing is stored, stands or waits
   pub fresh-web : {Waits : Letter P Q → Type 0} → ((g r : ℕ) → W g r .token ≡ none) → ((g r : ℕ) → W g r .slot ≡ none) → ((m : Letter P Q) → Waits m → ⊥)
       → Holds W Waits []
