@@ -25,8 +25,8 @@ use Rattle.quynhabet.specs.Exports.{plainTold, toldOf, outcomeBy, refusedBy, wr
 use Rattle.quynhabet.specs.Layout.{numbersOf, stationOf, stationFits, messageNumbers, messageOf, messageFits}
 use Rattle.quynhabet.proofs.Giving.{kept-refused}
 use Rattle.table.specs.declared.planning.Plan.{Plan}
-use Rattle.table.specs.declared.planning.Step.{Step}
-use Rattle.table.specs.declared.planning.Step.the-variants.{Add, Draw, Send, Deliver, Lose}
+use Rattle.table.specs.declared.steps.Step.{Step}
+use Rattle.table.specs.declared.steps.Step.the-variants.{Add, Draw, Send, Deliver, Lose}
 use Rattle.table.specs.declared.pool.Place.{Place}
 use Rattle.table.specs.declared.pool.Waiting.{Waiting}
 use Rattle.table.specs.declared.pool.Waiting.the-variants.{Empty, One}

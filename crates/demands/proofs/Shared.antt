@@ -16,7 +16,7 @@ use Rattle.record.specs.AtStation.{receiveBytesOf}
 use Rattle.record.proofs.ReadBack.{read-back}
 use Rattle.table.specs.declared.pool.Waiting.{Waiting}
 use Rattle.table.specs.declared.pool.Waiting.the-variants.{One}
-use Rattle.table.specs.declared.planning.Step.the-variants.{Send, Deliver}
+use Rattle.table.specs.declared.steps.Step.the-variants.{Send, Deliver}
 use Rattle.table.specs.declared.table.Table.{Table}
 use Rattle.table.specs.Table.{mostPlaces, stationAt, waitingAt, lowestEmpty}
 use Rattle.table.specs.Sound.{tableSound}

@@ -27,7 +27,7 @@ use Rattle.quynhabet.specs.Exports.{Given, plainTold, freshBy, addBy, drawBy, s
 use Rattle.table.specs.declared.lent.Pooled.{Pooled}
 use Rattle.table.specs.declared.planning.Change.the-variants.{Nothing}
 use Rattle.table.specs.declared.planning.Plan.{Plan}
-use Rattle.table.specs.declared.planning.Step.{Step}
+use Rattle.table.specs.declared.steps.Step.{Step}
 use Rattle.table.specs.declared.pool.Place.{Place}
 use Rattle.table.specs.declared.pool.Waiting.{Waiting}
 use Rattle.table.specs.declared.pool.Waiting.the-variants.{Empty}

@@ -5,7 +5,7 @@ use mathlib.Core.Path.{_≡_}
 use mathlib.Core.List.{List, [], _∷_, _++_}
 use lib.ListN.{length}
 use Rattle.station.specs.Answers.{done, badLine}
-use Rattle.table.specs.declared.planning.Step.{Step}
+use Rattle.table.specs.declared.steps.Step.{Step}
 use Rattle.table.specs.declared.table.Table.{Table}
 use Rattle.table.specs.Fresh.{freshOf}
 use Rattle.table.specs.Steps.{stepOf}

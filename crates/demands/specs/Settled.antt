@@ -20,7 +20,7 @@ use Rattle.record.specs.Writing.{Writes, writeAnswer}
 use Rattle.record.specs.AtStation.{writeForAnswer, receiveBytesOf}
 use Rattle.quynhabet.specs.Exports.{Gives, freshBy, addBy, drawBy, showBy, receiveBy, readBy, writeBy}
 use Rattle.table.specs.declared.lent.Pooled.{Pooled}
-use Rattle.table.specs.declared.planning.Step.{Step}
+use Rattle.table.specs.declared.steps.Step.{Step}
 use Rattle.table.specs.declared.pool.Place.{Place}
 use Rattle.table.specs.declared.pool.Waiting.{Waiting}
 use Rattle.table.specs.declared.table.Table.{Table}

@@ -2,7 +2,7 @@
 use mathlib.Core.List.{List, [], _∷_}
 use lib.ListN.{replicate}
 use Rattle.station.specs.Limits.{mostStations}
-use Rattle.table.specs.declared.planning.Step.the-variants.{Add, Send, Deliver, Lose}
+use Rattle.table.specs.declared.steps.Step.the-variants.{Add, Send, Deliver, Lose}
 use Rattle.table.specs.declared.pool.Waiting.the-variants.{Empty, One}
 use Rattle.table.specs.Table.{mostPlaces, stationAt, below, lowestEmpty}
 use Rattle.table.specs.Fresh.{freshOf}

@@ -6,7 +6,7 @@ use Rattle.station.specs.declared.held.HeldSlot.the-variants.{NoSlot}
 use Rattle.station.specs.declared.held.HeldToken.the-variants.{NoToken}
 use Rattle.station.specs.declared.message.Message.{Message}
 use Rattle.table.specs.declared.table.Table.{Table}
-use Rattle.table.specs.declared.planning.Step.the-variants.{Add, Draw, Send, Deliver, Lose}
+use Rattle.table.specs.declared.steps.Step.the-variants.{Add, Draw, Send, Deliver, Lose}
 use Rattle.table.specs.declared.stepping.Stepped.{Stepped}
 use Rattle.table.specs.declared.pool.Waiting.{Waiting}
 use Rattle.table.specs.declared.pool.Waiting.the-variants.{Empty, One}

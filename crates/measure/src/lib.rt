@@ -2,7 +2,7 @@
 ghost use mathlib.Core.Path.{_≡_};
 ghost use Rattle.table.specs.Fresh.{freshOf};
 ghost use Rattle.measure.specs.Steps.{stepBy, lastResult};
-use table::planning::Step;
+use table::steps::Step;
 
 // A step of numbers.
 fn step_by(kind: u64, a: u64, b: u64) -> Step

@@ -7,7 +7,7 @@ use lib.ListN.{length}
 use Rattle.station.specs.declared.outcome.Outcome.{Outcome}
 use Rattle.station.specs.declared.outcome.Report.{Report}
 use Rattle.station.specs.Answers.{notSound, noRecord}
-use Rattle.station.specs.Outcome.{noReport}
+use Rattle.station.specs.Outcome.{noReport, rulesOf}
 use Rattle.station.specs.Steps.{freshOf, addOf, drawOf, messageFor}
 use Rattle.record.specs.declared.reading.Reading.{Reading}
 use Rattle.record.specs.Layout.{bytesOf}
@@ -16,13 +16,6 @@ use Rattle.record.specs.Writing.{written, left, writeAnswer}
 use Rattle.record.specs.AtStation.{writeForAnswer, receiveBytesOf}
 use Rattle.quynhabet.specs.declared.told.Told.{Told}
 use Rattle.quynhabet.specs.Layout.{stationOf, stationFits, numbersOf, messageOf, messageFits, messageNumbers}
-
--- the rules that acted, as the sum of 1, 2, 4, 8, 16
-abbrev pub weight : Bool → ℕ → ℕ
-weight acted n = cond acted n 0
-
-abbrev pub rulesOf : Report → ℕ
-rulesOf r = weight (r .rule1) 1 + weight (r .rule2) 2 + weight (r .rule3) 4 + weight (r .rule4) 8 + weight (r .rule5) 16
 
 abbrev pub toldOf : ℕ → ℕ → Report → Told
 toldOf answer result r = record { answer = answer; result = result; rules = rulesOf r; opened = r .opened; made = r .made }

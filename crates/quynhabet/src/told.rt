@@ -1,8 +1,8 @@
 // What an export tells.
 ghost use mathlib.Core.Path.{_≡_};
-ghost use Prim.Native.Nat.{_≤_};
-ghost use Rattle.quynhabet.specs.Exports.{weight, rulesOf, toldOf, plainTold};
+ghost use Rattle.quynhabet.specs.Exports.{toldOf, plainTold};
 use station::outcome::Report;
+use station::outcome::rules_of;
 
 // The answer, the result, and the report: the rules that acted as a sum of 1, 2, 4, 8, 16, the quantity of a slot opened and that of a token made.
 #[repr(C)]
@@ -12,25 +12,6 @@ pub struct Told {
     pub rules: u64,
     pub opened: u64,
     pub made: u64,
-}
-
-fn weight(acted: bool, n: u64) -> u64
-    ensures { λ r. ⌜ (r ≡ weight acted n) × (r ≤ n) ⌝ }
-{
-    if acted {
-        return n;
-    }
-    0
-}
-
-fn rules_of(report: Report) -> u64
-    ensures { λ r. ⌜ r ≡ rulesOf report ⌝ }
-{
-    weight(report.rule1, 1)
-        + weight(report.rule2, 2)
-        + weight(report.rule3, 4)
-        + weight(report.rule4, 8)
-        + weight(report.rule5, 16)
 }
 
 pub(crate) fn told_of(answer: u8, result: u64, report: Report) -> Told

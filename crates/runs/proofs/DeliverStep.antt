@@ -16,7 +16,7 @@ use Rattle.station.proofs.Answering.{passed}
 use Rattle.station.proofs.Parts.{message-parts}
 use Rattle.table.specs.Steps.{placeAnswer, deliverBy, planBy}
 use Rattle.table.specs.Table.{mostPlaces, stationAt, waitingAt, receiverOf}
-use Rattle.table.specs.declared.planning.Step.the-variants.{Deliver}
+use Rattle.table.specs.declared.steps.Step.the-variants.{Deliver}
 use Rattle.table.specs.declared.pool.Waiting.{Waiting}
 use Rattle.table.specs.declared.pool.Waiting.the-variants.{Empty, One}
 use Rattle.table.specs.declared.table.Table.{Table}

@@ -20,8 +20,8 @@ use Rattle.station.specs.declared.held.Token.{Token}
 use Rattle.table.specs.Fresh.{freshOf}
 use Rattle.table.specs.Steps.{planBy, planOf, stepOf}
 use Rattle.table.specs.Table.{stationAt}
-use Rattle.table.specs.declared.planning.Step.{Step}
-use Rattle.table.specs.declared.planning.Step.the-variants.{Add, Draw, Send, Deliver, Lose}
+use Rattle.table.specs.declared.steps.Step.{Step}
+use Rattle.table.specs.declared.steps.Step.the-variants.{Add, Draw, Send, Deliver, Lose}
 use Rattle.table.specs.declared.table.Table.{Table}
 use Rattle.table.proofs.Kept.{step-keeps}
 use Rattle.runs.specs.Demand3.{Demand3, waitsFor}

@@ -14,7 +14,7 @@ use Rattle.station.specs.declared.message.Message.{Message}
 use Rattle.station.specs.declared.message.Shown.{Shown}
 use Rattle.table.specs.Steps.{placePlan, planned, placeAnswer, loseBy, planBy}
 use Rattle.table.specs.Table.{mostPlaces, stationAt, waitingAt, lowestEmpty}
-use Rattle.table.specs.declared.planning.Step.the-variants.{Send, Lose}
+use Rattle.table.specs.declared.steps.Step.the-variants.{Send, Lose}
 use Rattle.table.specs.declared.pool.Waiting.{Waiting}
 use Rattle.table.specs.declared.pool.Waiting.the-variants.{Empty, One}
 use Rattle.table.specs.declared.table.Table.{Table}

@@ -16,8 +16,8 @@ use Rattle.station.specs.declared.held.HeldToken.{HeldToken}
 use Rattle.station.specs.declared.held.HeldToken.the-variants.{NoToken, OneToken}
 use Rattle.table.specs.Steps.{refusedPlan, planned, applied}
 use Rattle.table.specs.declared.planning.Plan.{Plan}
-use Rattle.table.specs.declared.planning.Step.{Step}
-use Rattle.table.specs.declared.planning.Step.the-variants.{Add, Draw, Send, Deliver, Lose}
+use Rattle.table.specs.declared.steps.Step.{Step}
+use Rattle.table.specs.declared.steps.Step.the-variants.{Add, Draw, Send, Deliver, Lose}
 use Rattle.table.specs.declared.pool.Waiting.{Waiting}
 use Rattle.table.specs.declared.pool.Waiting.the-variants.{Empty, One}
 use Rattle.table.specs.declared.table.Table.{Table}

@@ -13,8 +13,8 @@ use Rattle.station.specs.Taking.{takeOf}
 use Rattle.station.specs.Steps.{addOf, drawOf, showOf, receiveOf}
 use Rattle.table.specs.declared.pool.Waiting.{Waiting}
 use Rattle.table.specs.declared.pool.Waiting.the-variants.{Empty, One}
-use Rattle.table.specs.declared.planning.Step.{Step}
-use Rattle.table.specs.declared.planning.Step.the-variants.{Add, Draw, Send, Deliver, Lose}
+use Rattle.table.specs.declared.steps.Step.{Step}
+use Rattle.table.specs.declared.steps.Step.the-variants.{Add, Draw, Send, Deliver, Lose}
 use Rattle.table.specs.declared.table.Table.{Table}
 use Rattle.table.specs.Table.{firstFrom, stationAt, waitingAt, receiverOf}
 use Rattle.table.specs.Sound.{tableSound}

@@ -16,8 +16,8 @@ use Rattle.station.specs.declared.station.Station.{Station}
 use Rattle.station.proofs.Stores.{stored}
 use Rattle.table.specs.Steps.{stationPlan, planned, atStation, planBy}
 use Rattle.table.specs.Table.{stationAt, putStation}
-use Rattle.table.specs.declared.planning.Step.{Step}
-use Rattle.table.specs.declared.planning.Step.the-variants.{Add, Draw}
+use Rattle.table.specs.declared.steps.Step.{Step}
+use Rattle.table.specs.declared.steps.Step.the-variants.{Add, Draw}
 use Rattle.table.specs.declared.table.Table.{Table}
 use Rattle.table.proofs.Puts.{seat-of}
 use Rattle.table.proofs.Sums.{station-sound}

@@ -18,8 +18,8 @@ use Rattle.station.specs.Side.{putValue, putSlot, putToken}
 use Rattle.station.specs.Rules.{acts, rests, fill, dropSlot, openSlot, dropToken, give, makeToken}
 use Rattle.station.specs.Taking.{reported}
 use Rattle.station.specs.Steps.{told, putStock, drawAnswer}
-use Rattle.table.specs.declared.planning.Step.{Step}
-use Rattle.table.specs.declared.planning.Step.the-variants.{Add, Draw, Send, Deliver}
+use Rattle.table.specs.declared.steps.Step.{Step}
+use Rattle.table.specs.declared.steps.Step.the-variants.{Add, Draw, Send, Deliver}
 use Rattle.runs.specs.Runs.{Build}
 use Rattle.runs.specs.Builds.{Taking, Drawing, takesBy, deliversBy, deliversUnasked, drawsBy}
 

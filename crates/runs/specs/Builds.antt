@@ -15,8 +15,8 @@ use Rattle.station.specs.Steps.{drawOf, receiveAnswer, received, receiveOf}
 use Rattle.table.specs.declared.pool.Waiting.{Waiting}
 use Rattle.table.specs.declared.pool.Waiting.the-variants.{Empty, One}
 use Rattle.table.specs.declared.planning.Plan.{Plan}
-use Rattle.table.specs.declared.planning.Step.{Step}
-use Rattle.table.specs.declared.planning.Step.the-variants.{Add, Draw, Send, Deliver, Lose}
+use Rattle.table.specs.declared.steps.Step.{Step}
+use Rattle.table.specs.declared.steps.Step.the-variants.{Add, Draw, Send, Deliver, Lose}
 use Rattle.table.specs.declared.table.Table.{Table}
 use Rattle.table.specs.Table.{stationAt, waitingAt, receiverOf}
 use Rattle.table.specs.Steps.{refusedPlan, stationPlan, planned, atStation, placeAnswer, planBy, tableAnswer, applied}

@@ -9,7 +9,7 @@ use lib.ListN.{length, drop}
 use lib.Seq.{sets}
 use Rattle.table.specs.declared.planning.Change.the-variants.{AtStation, AtPlace}
 use Rattle.table.specs.declared.planning.Plan.{Plan}
-use Rattle.table.specs.declared.planning.Step.{Step}
+use Rattle.table.specs.declared.steps.Step.{Step}
 use Rattle.table.specs.declared.table.Table.{Table}
 use Rattle.table.specs.Table.{below, lowestEmpty, stationAt, waitingAt}
 use Rattle.table.specs.Sound.{tableSound}

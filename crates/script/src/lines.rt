@@ -7,7 +7,7 @@ use crate::words::numeral_of;
 use crate::words::rest_of;
 use crate::words::same_bytes;
 use crate::words::word_of;
-use table::planning::Step;
+use table::steps::Step;
 
 pub enum Line {
     NoStep,

@@ -11,9 +11,9 @@ use crate::words::index_of;
 use station::answers;
 use station::outcome::no_report;
 use table::fresh::fresh_table;
-use table::planning::Step;
 use table::stepping::Stepped;
 use table::stepping::step;
+use table::steps::Step;
 use table::table::Table;
 
 // The numbered answer, the table that the steps start with, and the position of the first of them.

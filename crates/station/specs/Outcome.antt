@@ -1,5 +1,5 @@
 -- What an entry point tells.
-use Prim.Native.Nat.{ℕ, zero, suc}
+use Prim.Native.Nat.{ℕ, zero, suc, _+_}
 use mathlib.Core.Bool.{Bool, false, cond}
 use Rattle.station.specs.declared.station.Station.{Station}
 use Rattle.station.specs.declared.outcome.Report.{Report}
@@ -8,6 +8,13 @@ use Rattle.station.specs.declared.outcome.Outcome.{Outcome}
 -- no rule is named, the quantities are 0
 abbrev pub noReport : Report
 noReport = record { rule1 = false; rule2 = false; rule3 = false; rule4 = false; rule5 = false; opened = 0; made = 0 }
+
+-- the rules that acted, as the sum of 1, 2, 4, 8, 16
+abbrev pub weight : Bool → ℕ → ℕ
+weight acted n = cond acted n 0
+
+abbrev pub rulesOf : Report → ℕ
+rulesOf r = weight (r .rule1) 1 + weight (r .rule2) 2 + weight (r .rule3) 4 + weight (r .rule4) 8 + weight (r .rule5) 16
 
 -- every refusal has result 0 and changes nothing lent
 abbrev pub refused : ℕ → Station → Outcome

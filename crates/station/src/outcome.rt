@@ -1,6 +1,7 @@
 // What an entry point tells: the numbered answer, the result, the report, and the station as it then is.
 ghost use mathlib.Core.Path.{_≡_};
-ghost use Rattle.station.specs.Outcome.{noReport, refused};
+ghost use Prim.Native.Nat.{_≤_};
+ghost use Rattle.station.specs.Outcome.{noReport, refused, rulesOf, weight};
 use crate::station::Station;
 
 // Which of the five rules acted, the quantity of a slot opened and that of a token made.
@@ -34,6 +35,26 @@ pub fn no_report() -> Report
         opened: 0,
         made: 0,
     }
+}
+
+fn weight(acted: bool, n: u64) -> u64
+    ensures { λ r. ⌜ (r ≡ weight acted n) × (r ≤ n) ⌝ }
+{
+    if acted {
+        return n;
+    }
+    0
+}
+
+// The rules that acted as one number: the sum of 1, 2, 4, 8, 16.
+pub fn rules_of(report: Report) -> u64
+    ensures { λ r. ⌜ r ≡ rulesOf report ⌝ }
+{
+    weight(report.rule1, 1)
+        + weight(report.rule2, 2)
+        + weight(report.rule3, 4)
+        + weight(report.rule4, 8)
+        + weight(report.rule5, 16)
 }
 
 // The one place where a refusal is made: result 0, an empty report, the station as it was lent.

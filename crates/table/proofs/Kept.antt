@@ -14,8 +14,8 @@ use Rattle.station.proofs.Keeps.{add-keeps, add-seat, draw-keeps, draw-seat}
 use Rattle.table.specs.declared.pool.Waiting.{Waiting}
 use Rattle.table.specs.declared.pool.Waiting.the-variants.{Empty, One}
 use Rattle.table.specs.declared.planning.Plan.{Plan}
-use Rattle.table.specs.declared.planning.Step.{Step}
-use Rattle.table.specs.declared.planning.Step.the-variants.{Add, Draw, Send, Deliver, Lose}
+use Rattle.table.specs.declared.steps.Step.{Step}
+use Rattle.table.specs.declared.steps.Step.the-variants.{Add, Draw, Send, Deliver, Lose}
 use Rattle.table.specs.declared.table.Table.{Table}
 use Rattle.table.specs.Table.{mostPlaces, stationAt, waitingAt, receiverOf, lowestEmpty}
 use Rattle.table.specs.Sound.{placeSound, tableSound}

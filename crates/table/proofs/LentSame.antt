@@ -10,7 +10,7 @@ use Rattle.station.specs.Steps.{showAnswer, showOf, messageFor}
 use Rattle.table.specs.declared.pool.Waiting.{Waiting}
 use Rattle.table.specs.declared.pool.Waiting.the-variants.{Empty, One}
 use Rattle.table.specs.declared.pool.Place.{Place}
-use Rattle.table.specs.declared.planning.Step.the-variants.{Send, Lose}
+use Rattle.table.specs.declared.steps.Step.the-variants.{Send, Lose}
 use Rattle.table.specs.declared.stepping.Stepped.{Stepped}
 use Rattle.table.specs.declared.table.Table.{Table}
 use Rattle.table.specs.declared.lent.Told.{Told}

@@ -16,7 +16,7 @@ use Rattle.station.specs.Steps.{told, putStock, messageFor, addAnswer, drawAnsw
 use Rattle.table.specs.declared.pool.Waiting.the-variants.{One}
 use Rattle.table.specs.declared.pool.Place.{Place}
 use Rattle.table.specs.declared.planning.Plan.{Plan}
-use Rattle.table.specs.declared.planning.Step.the-variants.{Add, Draw, Send, Deliver}
+use Rattle.table.specs.declared.steps.Step.the-variants.{Add, Draw, Send, Deliver}
 use Rattle.table.specs.declared.stepping.Stepped.{Stepped}
 use Rattle.table.specs.declared.table.Table.{Table}
 use Rattle.table.specs.Table.{mostPlaces, stationAt, waitingAt, lowestEmpty}

@@ -4,3 +4,4 @@ pub mod Steps
 pub mod Fresh
 pub mod Way
 pub mod Lent
+pub mod Running

@@ -15,8 +15,8 @@ use Rattle.table.specs.declared.table.Table.{Table}
 use Rattle.table.specs.declared.planning.Change.{Change}
 use Rattle.table.specs.declared.planning.Change.the-variants.{Nothing, AtStation, AtPlace}
 use Rattle.table.specs.declared.planning.Plan.{Plan}
-use Rattle.table.specs.declared.planning.Step.{Step}
-use Rattle.table.specs.declared.planning.Step.the-variants.{Add, Draw, Send, Deliver, Lose}
+use Rattle.table.specs.declared.steps.Step.{Step}
+use Rattle.table.specs.declared.steps.Step.the-variants.{Add, Draw, Send, Deliver, Lose}
 use Rattle.table.specs.declared.stepping.Stepped.{Stepped}
 use Rattle.table.specs.Table.{mostPlaces, stationAt, waitingAt, receiverOf, putStation, putPlace, lowestEmpty}
 use Rattle.table.specs.Sound.{tableSound}

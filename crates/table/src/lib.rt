@@ -3,8 +3,10 @@ pub mod fresh;
 pub mod lent;
 pub mod planning;
 pub mod pool;
+pub mod running;
 pub mod sound;
 pub mod stepping;
+pub mod steps;
 pub mod table;
 pub mod way;
 

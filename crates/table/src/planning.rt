@@ -8,6 +8,7 @@ use crate::pool::Place;
 use crate::pool::Waiting;
 use crate::pool::lowest_empty;
 use crate::sound::table_is_sound;
+use crate::steps::Step;
 use crate::table::Table;
 use station::answers;
 use station::message::Shown;
@@ -16,15 +17,6 @@ use station::outcome::Report;
 use station::outcome::no_report;
 use station::station::Station;
 use station::steps::blank_station;
-
-// A station and an amount; a sender and a receiver; a place.
-pub enum Step {
-    Add(u64, u64),
-    Draw(u64, u64),
-    Send(u64, u64),
-    Deliver(u64),
-    Lose(u64),
-}
 
 pub enum Change {
     Nothing,

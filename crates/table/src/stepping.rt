@@ -2,9 +2,9 @@
 ghost use mathlib.Core.Path.{_≡_};
 ghost use Rattle.table.specs.Steps.{stepOf};
 use crate::planning::Change;
-use crate::planning::Step;
 use crate::planning::plan_for;
 use crate::pool::Place;
+use crate::steps::Step;
 use crate::table::Table;
 use station::outcome::Report;
 

@@ -8,9 +8,9 @@ use station::held::Slot;
 use station::held::Token;
 use station::message::Message;
 use station::station::Station;
-use table::planning::Step;
 use table::pool::Place;
 use table::pool::Waiting;
+use table::steps::Step;
 use table::table::Table;
 
 const LARGEST: u64 = 18446744073709551615;

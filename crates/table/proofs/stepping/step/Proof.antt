@@ -3,7 +3,7 @@ use Prim.Native.Nat.{_<_}
 use mathlib.Core.Path.{_≡_, _∙_}
 use mathlib.Core.Logic.{⊎-elim}
 use Rattle.table.specs.declared.planning.Plan.{Plan}
-use Rattle.table.specs.declared.planning.Step.{Step}
+use Rattle.table.specs.declared.steps.Step.{Step}
 use Rattle.table.specs.declared.table.Table.{Table}
 use Rattle.table.specs.Steps.{stepOf, planOf, applied, Applies}
 use Rattle.table.proofs.Plans.{plan-applies}
