@@ -5,7 +5,7 @@ use mathlib.Core.Path.{_≡_, refl, ap, sym, _∙_}
 use mathlib.Core.List.{List, [], _∷_, _++_, append-assoc}
 use borrow.Author.Tests.{le-ltb}
 use lib.ListN.{length}
-use Rattle.station.specs.Answers.{badLine}
+use Rattle.rules.specs.Answers.{badLine}
 use Rattle.table.specs.declared.table.Table.{Table}
 use Rattle.table.specs.Fresh.{freshOf}
 use Rattle.table.specs.Steps.{stepOf}

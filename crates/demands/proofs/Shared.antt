@@ -6,8 +6,8 @@ use mathlib.Core.Bool.{true}
 use mathlib.Core.List.{List}
 use lib.ListN.{length}
 use Rattle.station.specs.declared.station.Station.{Station}
-use Rattle.station.specs.declared.message.Message.{Message}
-use Rattle.station.specs.Limits.{mostStations}
+use Rattle.rules.specs.declared.message.Message.{Message}
+use Rattle.rules.specs.Limits.{mostStations}
 use Rattle.station.specs.Sound.{messageSound}
 use Rattle.station.specs.Steps.{showAnswer, messageFor, receiveOf}
 use Rattle.record.specs.Layout.{bytesOf}

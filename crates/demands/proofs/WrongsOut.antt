@@ -1,8 +1,8 @@
 -- No wrong outcome of a table, of its parts, of a script or of a call from C is what is promised. Assumes nothing.
 use lib.Dec.{T}
-use Rattle.station.specs.Below.{allBelow}
+use Rattle.rules.specs.Below.{allBelow}
 use Rattle.station.specs.Sound.{stationSound, messageSound}
-use Rattle.station.specs.Taking.{takeOf}
+use Rattle.rules.specs.Taking.{takeOf}
 use Rattle.station.specs.Steps.{addOf, drawOf, showOf, receiveOf}
 use Rattle.table.specs.Table.{firstFrom}
 use Rattle.table.specs.Sound.{tableSound}

@@ -1,7 +1,7 @@
 -- Half of the difference of two values, at -1, 0 and 1 and at both ends.
 use Prim.Native.Nat.{ℕ}
 use mathlib.Core.List.{List, [], _∷_}
-use Rattle.station.specs.Half.{halfAbove}
+use Rattle.rules.specs.Half.{halfAbove}
 
 pub record Halving : Type 0 where
   pub theirs : ℕ

@@ -2,15 +2,15 @@
 use Prim.Native.Nat.{ℕ}
 use mathlib.Core.Bool.{Bool, true, false}
 use mathlib.Core.List.{List, [], _∷_, _++_}
-use Rattle.station.specs.declared.held.HeldSlot.{HeldSlot}
-use Rattle.station.specs.declared.held.HeldSlot.the-variants.{NoSlot, OneSlot}
-use Rattle.station.specs.declared.held.HeldToken.{HeldToken}
-use Rattle.station.specs.declared.held.HeldToken.the-variants.{NoToken, OneToken}
+use Rattle.rules.specs.declared.held.HeldSlot.{HeldSlot}
+use Rattle.rules.specs.declared.held.HeldSlot.the-variants.{NoSlot, OneSlot}
+use Rattle.rules.specs.declared.held.HeldToken.{HeldToken}
+use Rattle.rules.specs.declared.held.HeldToken.the-variants.{NoToken, OneToken}
 use Rattle.station.specs.declared.station.Station.{Station}
-use Rattle.station.specs.declared.message.Message.{Message}
-use Rattle.station.specs.declared.outcome.Report.{Report}
+use Rattle.rules.specs.declared.message.Message.{Message}
+use Rattle.rules.specs.declared.report.Report.{Report}
 use Rattle.station.specs.declared.outcome.Outcome.{Outcome}
-use Rattle.station.specs.declared.side.Side.{Side}
+use Rattle.rules.specs.declared.side.Side.{Side}
 use Rattle.station.specs.Held.{slotFor, tokenFor}
 use Rattle.station.specs.Side.{putSide}
 use Rattle.station.specs.Steps.{blank}

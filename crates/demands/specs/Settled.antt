@@ -5,15 +5,16 @@ use Prim.Native.Nat.{ℕ}
 use mathlib.Core.Path.{_≡_}
 use mathlib.Core.List.{List}
 use lib.ListN.{length}
-use Rattle.station.specs.declared.held.Slot.{Slot}
-use Rattle.station.specs.declared.held.Token.{Token}
-use Rattle.station.specs.declared.message.Message.{Message}
+use Rattle.rules.specs.declared.held.Slot.{Slot}
+use Rattle.rules.specs.declared.held.Token.{Token}
+use Rattle.rules.specs.declared.message.Message.{Message}
 use Rattle.station.specs.declared.station.Station.{Station}
-use Rattle.station.specs.Limits.{mostStations}
-use Rattle.station.specs.Outcome.{noReport}
-use Rattle.station.specs.Rules.{agree}
+use Rattle.rules.specs.Limits.{mostStations}
+use Rattle.rules.specs.Report.{noReport}
+use Rattle.rules.specs.Rules.{agree}
 use Rattle.station.specs.Sound.{countSound, stationSound, messageSound}
-use Rattle.station.specs.Steps.{blank, noMessage, freshOf, addOf, drawOf, showOf, receiveOf, messageFor}
+use Rattle.rules.specs.Message.{noMessage}
+use Rattle.station.specs.Steps.{blank, freshOf, addOf, drawOf, showOf, receiveOf, messageFor}
 use Rattle.record.specs.Layout.{bytesOf}
 use Rattle.record.specs.Reading.{readOf}
 use Rattle.record.specs.Writing.{Writes, writeAnswer}

@@ -4,18 +4,19 @@ use mathlib.Core.Bool.{Bool, true, false, _&&_, not}
 use mathlib.Core.List.{List, [], _∷_, _++_}
 use lib.Dec.{eqb}
 use lib.ListN.{length, replicate}
-use Rattle.station.specs.declared.held.HeldSlot.{HeldSlot}
-use Rattle.station.specs.declared.held.HeldSlot.the-variants.{NoSlot, OneSlot}
-use Rattle.station.specs.declared.held.HeldToken.{HeldToken}
-use Rattle.station.specs.declared.held.HeldToken.the-variants.{NoToken, OneToken}
+use Rattle.rules.specs.declared.held.HeldSlot.{HeldSlot}
+use Rattle.rules.specs.declared.held.HeldSlot.the-variants.{NoSlot, OneSlot}
+use Rattle.rules.specs.declared.held.HeldToken.{HeldToken}
+use Rattle.rules.specs.declared.held.HeldToken.the-variants.{NoToken, OneToken}
 use Rattle.station.specs.declared.station.Station.{Station}
-use Rattle.station.specs.declared.message.Message.{Message}
+use Rattle.rules.specs.declared.message.Message.{Message}
 use Rattle.station.specs.declared.outcome.Outcome.{Outcome}
-use Rattle.station.specs.Outcome.{noReport}
-use Rattle.station.specs.Rules.{agree}
+use Rattle.rules.specs.Report.{noReport}
+use Rattle.rules.specs.Rules.{agree}
 use Rattle.station.specs.Side.{putSide}
 use Rattle.station.specs.Sound.{countSound, stationSound, messageSound}
-use Rattle.station.specs.Steps.{blank, putStock, noMessage, freshOf, addOf, drawOf, showOf, receiveOf, messageFor}
+use Rattle.rules.specs.Message.{noMessage}
+use Rattle.station.specs.Steps.{blank, putStock, freshOf, addOf, drawOf, showOf, receiveOf, messageFor}
 use Rattle.record.specs.Layout.{bytesOf}
 use Rattle.record.specs.Reading.{readOf}
 use Rattle.record.specs.Writing.{written, left, writeAnswer}

@@ -1,7 +1,7 @@
 -- Wrong outcomes of the functions that look at parts of a table, and of a run of steps in one call.
 use mathlib.Core.List.{List, [], _∷_}
 use lib.ListN.{replicate}
-use Rattle.station.specs.Limits.{mostStations}
+use Rattle.rules.specs.Limits.{mostStations}
 use Rattle.table.specs.declared.steps.Step.the-variants.{Add, Send, Deliver, Lose}
 use Rattle.table.specs.declared.pool.Waiting.the-variants.{Empty, One}
 use Rattle.table.specs.Table.{mostPlaces, stationAt, below, lowestEmpty}

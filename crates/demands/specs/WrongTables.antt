@@ -2,9 +2,9 @@
 use Prim.Native.Nat.{ℕ}
 use mathlib.Core.List.{List, [], _∷_}
 use lib.ListN.{length, drop, replicate}
-use Rattle.station.specs.declared.held.HeldSlot.the-variants.{NoSlot}
-use Rattle.station.specs.declared.held.HeldToken.the-variants.{NoToken}
-use Rattle.station.specs.declared.message.Message.{Message}
+use Rattle.rules.specs.declared.held.HeldSlot.the-variants.{NoSlot}
+use Rattle.rules.specs.declared.held.HeldToken.the-variants.{NoToken}
+use Rattle.rules.specs.declared.message.Message.{Message}
 use Rattle.table.specs.declared.table.Table.{Table}
 use Rattle.table.specs.declared.steps.Step.the-variants.{Add, Draw, Send, Deliver, Lose}
 use Rattle.table.specs.declared.stepping.Stepped.{Stepped}

@@ -8,10 +8,10 @@ use lib.Dec.{leb, eqb}
 use lib.ListN.{getD, set}
 use lib.Seq.{sets}
 use borrow.Author.Tests.{leb-true}
-use Rattle.station.specs.Below.{allBelow}
-use Rattle.station.specs.Limits.{lastClock, mostStations}
-use Rattle.station.specs.Sound.{clockSound}
-use Rattle.station.proofs.Below.{needed, all-at}
+use Rattle.rules.specs.Below.{allBelow}
+use Rattle.rules.specs.Limits.{lastClock, mostStations}
+use Rattle.rules.specs.Clocks.{clockSound}
+use Rattle.rules.proofs.Below.{needed, all-at}
 use Rattle.quynhabet.specs.declared.fours.Four.{Four}
 use Rattle.quynhabet.specs.Layout.{fourNumbers, fourAt, fourFits, isNothing, slotPlace, tokenPlace, cellsFit, stationFits, messageFits}
 

@@ -11,13 +11,13 @@ use lib.Seq.{ext-getD}
 use borrow.Author.Tests.{ltb-true, ltb-false, le-leb}
 use Rattle.station.specs.declared.held.SlotCell.{SlotCell}
 use Rattle.station.specs.declared.held.TokenCell.{TokenCell}
-use Rattle.station.specs.declared.message.Message.{Message}
+use Rattle.rules.specs.declared.message.Message.{Message}
 use Rattle.station.specs.declared.station.Station.{Station}
-use Rattle.station.specs.Below.{allBelow}
+use Rattle.rules.specs.Below.{allBelow}
 use Rattle.station.specs.Held.{noSlot, noToken, slotFor, tokenFor}
-use Rattle.station.specs.Limits.{mostStations}
+use Rattle.rules.specs.Limits.{mostStations}
 use Rattle.station.specs.Sound.{stationSound, messageSound}
-use Rattle.station.proofs.Below.{all-from}
+use Rattle.rules.proofs.Below.{all-from}
 use Rattle.station.proofs.Parts.{station-parts, message-parts}
 use Rattle.quynhabet.specs.declared.fours.Four.{Four}
 use Rattle.quynhabet.specs.Layout.{inTurn, fourNumbers, fourAt, slotFour, tokenFour, slotOf, tokenOf, slotPlace, tokenPlace, slotCell, tokenCell, cellsFit, numbersOf, stationOf, stationFits, messageNumbers, messageOf, messageFits}

@@ -5,9 +5,9 @@ use mathlib.Core.Bool.{Bool, cond}
 use mathlib.Core.List.{List}
 use lib.ListN.{length}
 use Rattle.station.specs.declared.outcome.Outcome.{Outcome}
-use Rattle.station.specs.declared.outcome.Report.{Report}
-use Rattle.station.specs.Answers.{notSound, noRecord}
-use Rattle.station.specs.Outcome.{noReport, rulesOf}
+use Rattle.rules.specs.declared.report.Report.{Report}
+use Rattle.rules.specs.Answers.{notSound, noRecord}
+use Rattle.rules.specs.Report.{noReport, rulesOf}
 use Rattle.station.specs.Steps.{freshOf, addOf, drawOf, messageFor}
 use Rattle.record.specs.declared.reading.Reading.{Reading}
 use Rattle.record.specs.Layout.{bytesOf}

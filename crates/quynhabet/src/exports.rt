@@ -11,8 +11,8 @@ use crate::stations::station_fits;
 use crate::stations::station_of;
 use crate::told::Told;
 use crate::told::plain_told;
-use station::answers::NO_RECORD;
-use station::answers::NOT_SOUND;
+use rules::answers::NO_RECORD;
+use rules::answers::NOT_SOUND;
 
 // Makes a station with nothing in it: refused by 1, 2.
 #[no_mangle]

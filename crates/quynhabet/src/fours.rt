@@ -4,15 +4,15 @@ ghost use mathlib.Core.Bool.{true};
 ghost use Prim.Native.Nat.{_+_, _≤_};
 ghost use lib.ListN.{length};
 ghost use lib.Seq.{sets};
-ghost use Rattle.station.specs.Sound.{clockSound};
+ghost use Rattle.rules.specs.Clocks.{clockSound};
 ghost use Rattle.quynhabet.specs.Layout.{fourNumbers, fourAt, fourFits, slotFour, tokenFour, slotOf, tokenOf};
-use station::clocks::DestinationClock;
-use station::clocks::LAST;
-use station::clocks::SourceClock;
-use station::held::HeldSlot;
-use station::held::HeldToken;
-use station::held::Slot;
-use station::held::Token;
+use rules::clocks::DestinationClock;
+use rules::clocks::LAST;
+use rules::clocks::SourceClock;
+use rules::held::HeldSlot;
+use rules::held::HeldToken;
+use rules::held::Slot;
+use rules::held::Token;
 
 pub(crate) struct Four {
     pub present: u64,

@@ -9,9 +9,9 @@ use crate::fours::slot_four;
 use crate::fours::slot_of;
 use crate::fours::token_four;
 use crate::fours::token_of;
-use station::clocks::DestinationClock;
-use station::clocks::SourceClock;
-use station::message::Message;
+use rules::clocks::DestinationClock;
+use rules::clocks::SourceClock;
+use rules::message::Message;
 
 pub(crate) fn message_fits(numbers: [u64; 13]) -> bool
     ensures { λ r. ⌜ r ≡ messageFits numbers ⌝ }

@@ -1,8 +1,8 @@
 // What an export tells.
 ghost use mathlib.Core.Path.{_≡_};
 ghost use Rattle.quynhabet.specs.Exports.{toldOf, plainTold};
-use station::outcome::Report;
-use station::outcome::rules_of;
+use rules::report::Report;
+use rules::report::rules_of;
 
 // The answer, the result, and the report: the rules that acted as a sum of 1, 2, 4, 8, 16, the quantity of a slot opened and that of a token made.
 #[repr(C)]

@@ -1,8 +1,8 @@
 -- The record that document 01 prints, byte by byte. Assumes nothing.
 use mathlib.Core.Path.{_≡_, refl}
 use mathlib.Core.List.{[], _∷_}
-use Rattle.station.specs.declared.held.HeldSlot.the-variants.{NoSlot}
-use Rattle.station.specs.declared.held.HeldToken.the-variants.{NoToken}
+use Rattle.rules.specs.declared.held.HeldSlot.the-variants.{NoSlot}
+use Rattle.rules.specs.declared.held.HeldToken.the-variants.{NoToken}
 use Rattle.record.specs.Numbers.{big}
 use Rattle.record.specs.Layout.{bytesOf}
 

@@ -4,7 +4,7 @@ use mathlib.Core.List.{List}
 use mathlib.Core.Bool.{true, false}
 use Prim.Native.Nat.{ℕ}
 use Rattle.station.specs.declared.station.Station.{Station}
-use Rattle.station.specs.Answers.{notSound, noRecord}
+use Rattle.rules.specs.Answers.{notSound, noRecord}
 use Rattle.station.specs.Outcome.{refused}
 use Rattle.station.specs.Sound.{stationSound}
 use Rattle.station.specs.Steps.{receiveOf}

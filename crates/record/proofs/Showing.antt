@@ -3,9 +3,9 @@ use Prim.Native.Nat.{ℕ, zero, suc}
 use mathlib.Core.Path.{_≡_, refl, ap, _∙_}
 use mathlib.Core.List.{List}
 use Rattle.station.specs.declared.station.Station.{Station}
-use Rattle.station.specs.declared.message.Message.{Message}
+use Rattle.rules.specs.declared.message.Message.{Message}
 use Rattle.station.specs.declared.message.Shown.{Shown}
-use Rattle.station.specs.Outcome.{orElse}
+use Rattle.rules.specs.Refusals.{orElse}
 use Rattle.station.specs.Steps.{showAnswer, showing, showOf, messageFor}
 use Rattle.station.proofs.Keeps.{message-sound}
 use Rattle.record.specs.Writing.{Writes, writeAnswer}

@@ -5,8 +5,8 @@ use lib.Dec.{ltb}
 use lib.ListN.{length}
 use Rattle.station.specs.declared.station.Station.{Station}
 use Rattle.station.specs.declared.outcome.Outcome.{Outcome}
-use Rattle.station.specs.Answers.{done, shortBuffer}
-use Rattle.station.specs.Outcome.{first, orElse}
+use Rattle.rules.specs.Answers.{done, shortBuffer}
+use Rattle.rules.specs.Refusals.{first, orElse}
 use Rattle.station.specs.Steps.{showAnswer, messageFor, receiveOf}
 use Rattle.record.specs.Layout.{bytesOf}
 use Rattle.record.specs.Reading.{readOf}

@@ -4,16 +4,16 @@ use mathlib.Core.List.{List}
 use mathlib.Core.Bool.{Bool, cond, _&&_}
 use lib.Dec.{leb, eqb}
 use lib.ListN.{length}
-use Rattle.station.specs.declared.clocks.SourceClock.{SourceClock}
-use Rattle.station.specs.declared.clocks.DestinationClock.{DestinationClock}
-use Rattle.station.specs.declared.held.HeldSlot.{HeldSlot}
-use Rattle.station.specs.declared.held.HeldSlot.the-variants.{NoSlot, OneSlot}
-use Rattle.station.specs.declared.held.HeldToken.{HeldToken}
-use Rattle.station.specs.declared.held.HeldToken.the-variants.{NoToken, OneToken}
-use Rattle.station.specs.declared.message.Message.{Message}
-use Rattle.station.specs.Answers.{done, noRecord}
+use Rattle.rules.specs.declared.clocks.SourceClock.{SourceClock}
+use Rattle.rules.specs.declared.clocks.DestinationClock.{DestinationClock}
+use Rattle.rules.specs.declared.held.HeldSlot.{HeldSlot}
+use Rattle.rules.specs.declared.held.HeldSlot.the-variants.{NoSlot, OneSlot}
+use Rattle.rules.specs.declared.held.HeldToken.{HeldToken}
+use Rattle.rules.specs.declared.held.HeldToken.the-variants.{NoToken, OneToken}
+use Rattle.rules.specs.declared.message.Message.{Message}
+use Rattle.rules.specs.Answers.{done, noRecord}
 use Rattle.station.specs.Sound.{messageSound}
-use Rattle.station.specs.Steps.{noMessage}
+use Rattle.rules.specs.Message.{noMessage}
 use Rattle.record.specs.declared.reading.Reading.{Reading}
 use Rattle.record.specs.Numbers.{numberAt}
 

@@ -5,10 +5,10 @@ use mathlib.Core.List.{List, _++_}
 use mathlib.Core.Bool.{not}
 use lib.Dec.{ltb}
 use lib.ListN.{length, drop}
-use Rattle.station.specs.declared.message.Message.{Message}
-use Rattle.station.specs.Answers.{done, noRecord, shortBuffer}
+use Rattle.rules.specs.declared.message.Message.{Message}
+use Rattle.rules.specs.Answers.{done, noRecord, shortBuffer}
 use Rattle.station.specs.Sound.{messageSound}
-use Rattle.station.specs.Outcome.{first}
+use Rattle.rules.specs.Refusals.{first}
 use Rattle.record.specs.declared.writing.Written.{Written}
 use Rattle.record.specs.Layout.{bytesOf}
 

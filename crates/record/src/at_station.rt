@@ -8,7 +8,7 @@ ghost use Rattle.record.specs.AtStation.{writeForAnswer, receiveBytesOf}
 use crate::reading::read;
 use crate::writing::Written;
 use crate::writing::write;
-use station::answers::DONE;
+use rules::answers::DONE;
 use station::outcome::Outcome;
 use station::station::Station;
 

@@ -4,12 +4,12 @@ ghost use Prim.Native.Nat.{_+_, _≤_};
 ghost use lib.ListN.{length};
 ghost use Rattle.record.specs.Reading.{fieldAt, headAt, slotAt, tokenAt, pastHeld, sourceAt, destinationAt};
 use crate::numbers::number_at;
-use station::clocks::DestinationClock;
-use station::clocks::SourceClock;
-use station::held::HeldSlot;
-use station::held::HeldToken;
-use station::held::Slot;
-use station::held::Token;
+use rules::clocks::DestinationClock;
+use rules::clocks::SourceClock;
+use rules::held::HeldSlot;
+use rules::held::HeldToken;
+use rules::held::Slot;
+use rules::held::Token;
 
 // Whether a whole field of this tag and length stands at a position.
 pub(crate) fn field_at(bytes: &[u8], at: usize, tag: u64, size: usize) -> bool

@@ -7,10 +7,10 @@ ghost use lib.Seq.{sets};
 ghost use Rattle.record.specs.Numbers.{big};
 ghost use Rattle.record.specs.Layout.{field, clocks, held, slotField, tokenField};
 use crate::numbers::put_number;
-use station::clocks::DestinationClock;
-use station::clocks::SourceClock;
-use station::held::HeldSlot;
-use station::held::HeldToken;
+use rules::clocks::DestinationClock;
+use rules::clocks::SourceClock;
+use rules::held::HeldSlot;
+use rules::held::HeldToken;
 
 // A field's tag and length.
 pub(crate) fn put_head(buffer: &mut [u8], at: usize, tag: u64, size: u64)

@@ -11,10 +11,10 @@ use crate::finding::source_at;
 use crate::finding::token_at;
 use crate::numbers::number_at;
 use crate::reader::Reader;
-use station::answers::DONE;
-use station::answers::NO_RECORD;
-use station::message::Message;
-use station::message::no_message;
+use rules::answers::DONE;
+use rules::answers::NO_RECORD;
+use rules::message::Message;
+use rules::message::no_message;
 use station::sound::message_is_sound;
 
 // The numbered answer, the record's length, and the message.

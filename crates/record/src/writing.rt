@@ -9,12 +9,12 @@ use crate::putting::put_clocks_field;
 use crate::putting::put_field;
 use crate::putting::put_slot;
 use crate::putting::put_token;
-use station::answers::DONE;
-use station::answers::NO_RECORD;
-use station::answers::SHORT_BUFFER;
-use station::held::HeldSlot;
-use station::held::HeldToken;
-use station::message::Message;
+use rules::answers::DONE;
+use rules::answers::NO_RECORD;
+use rules::answers::SHORT_BUFFER;
+use rules::held::HeldSlot;
+use rules::held::HeldToken;
+use rules::message::Message;
 use station::sound::message_is_sound;
 
 // The numbered answer and the record's length.

@@ -10,15 +10,15 @@ use Rattle.handshake.specs.Web.{Web, Letter, Present}
 use Rattle.handshake.proofs.Ends.{end-same}
 use Rattle.handshake.proofs.Passages.{Passage, rest}
 use Rattle.handshake.proofs.Sums.{sum-term}
-use Rattle.station.specs.Limits.{mostValue}
-use Rattle.station.specs.Rules.{fill}
+use Rattle.rules.specs.Limits.{mostValue}
+use Rattle.rules.specs.Rules.{fill}
 use Rattle.station.specs.Side.{sideFor, putSide}
 use Rattle.station.specs.Steps.{putStock}
-use Rattle.station.specs.Taking.{takeOf}
-use Rattle.station.specs.declared.message.Message.{Message}
-use Rattle.station.specs.declared.side.Side.{Side}
+use Rattle.rules.specs.Taking.{takeOf}
+use Rattle.rules.specs.declared.message.Message.{Message}
+use Rattle.rules.specs.declared.side.Side.{Side}
 use Rattle.station.specs.declared.station.Station.{Station}
-use Rattle.station.proofs.Stores.{stored}
+use Rattle.rules.proofs.Stores.{stored}
 use Rattle.table.specs.Table.{stationAt, waitingAt, putStation, putPlace}
 use Rattle.table.specs.declared.pool.Place.{Place}
 use Rattle.table.specs.declared.pool.Waiting.{Waiting}

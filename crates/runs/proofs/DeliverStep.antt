@@ -7,12 +7,12 @@ use native.Mathlib.Omega.{arith}
 use lib.Dec.{ltb}
 use borrow.Author.Tests.{ltb-true, lt-ltb, le-ltb, eq-eqb, not-false}
 use Rattle.handshake.specs.History.{Entry}
-use Rattle.station.specs.Limits.{mostStations, mostValue}
-use Rattle.station.specs.Rules.{fill}
+use Rattle.rules.specs.Limits.{mostStations, mostValue}
+use Rattle.rules.specs.Rules.{fill}
 use Rattle.station.specs.Side.{sideFor}
 use Rattle.station.specs.Steps.{receiveAnswer, receiveOf}
-use Rattle.station.specs.declared.message.Message.{Message}
-use Rattle.station.proofs.Answering.{passed}
+use Rattle.rules.specs.declared.message.Message.{Message}
+use Rattle.rules.proofs.Refusing.{passed}
 use Rattle.station.proofs.Parts.{message-parts}
 use Rattle.table.specs.Steps.{placeAnswer, deliverBy, planBy}
 use Rattle.table.specs.Table.{mostPlaces, stationAt, waitingAt, receiverOf}

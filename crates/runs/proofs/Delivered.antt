@@ -9,17 +9,17 @@ use Rattle.handshake.specs.History.{Entry, entries}
 use Rattle.handshake.specs.Web.{Web, Letter, withEnd}
 use Rattle.handshake.proofs.Ends.{end-in, end-out, takes, gives}
 use Rattle.handshake.proofs.Passages.{Passage, next, quietly}
-use Rattle.station.specs.Half.{halfAbove}
-use Rattle.station.specs.Rules.{fill, dropSlot, openSlot, dropToken, makeToken}
-use Rattle.station.specs.Taking.{takeOf}
-use Rattle.station.specs.declared.clocks.SourceClock.{SourceClock}
-use Rattle.station.specs.declared.clocks.DestinationClock.{DestinationClock}
-use Rattle.station.specs.declared.held.HeldSlot.{HeldSlot}
-use Rattle.station.specs.declared.held.HeldSlot.the-variants.{NoSlot, OneSlot}
-use Rattle.station.specs.declared.held.HeldToken.{HeldToken}
-use Rattle.station.specs.declared.held.HeldToken.the-variants.{NoToken, OneToken}
-use Rattle.station.specs.declared.message.Message.{Message}
-use Rattle.station.specs.declared.side.Side.{Side}
+use Rattle.rules.specs.Half.{halfAbove}
+use Rattle.rules.specs.Rules.{fill, dropSlot, openSlot, dropToken, makeToken}
+use Rattle.rules.specs.Taking.{takeOf}
+use Rattle.rules.specs.declared.clocks.SourceClock.{SourceClock}
+use Rattle.rules.specs.declared.clocks.DestinationClock.{DestinationClock}
+use Rattle.rules.specs.declared.held.HeldSlot.{HeldSlot}
+use Rattle.rules.specs.declared.held.HeldSlot.the-variants.{NoSlot, OneSlot}
+use Rattle.rules.specs.declared.held.HeldToken.{HeldToken}
+use Rattle.rules.specs.declared.held.HeldToken.the-variants.{NoToken, OneToken}
+use Rattle.rules.specs.declared.message.Message.{Message}
+use Rattle.rules.specs.declared.side.Side.{Side}
 use Rattle.table.specs.declared.pool.Waiting.the-variants.{One}
 use Rattle.runs.specs.Runs.{arrivalBy, departureBy, entriesBy}
 use Rattle.runs.specs.Demand3.{amount}

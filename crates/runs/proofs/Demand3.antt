@@ -11,12 +11,12 @@ use Rattle.handshake.specs.History.{Transfer, transfer, Entry, arrival, at, In}
 use Rattle.handshake.proofs.Histories.{in-either}
 use Rattle.handshake.proofs.Keeps.{not-both, same-one, stale-spent}
 use Rattle.handshake.proofs.Passages.{SpentIn}
-use Rattle.station.specs.Answers.{done}
+use Rattle.rules.specs.Answers.{done}
 use Rattle.station.specs.Held.{slotFor, tokenFor}
 use Rattle.station.specs.Sound.{countSound}
-use Rattle.station.proofs.Below.{needed}
-use Rattle.station.specs.declared.held.HeldToken.the-variants.{OneToken}
-use Rattle.station.specs.declared.held.Token.{Token}
+use Rattle.rules.proofs.Below.{needed}
+use Rattle.rules.specs.declared.held.HeldToken.the-variants.{OneToken}
+use Rattle.rules.specs.declared.held.Token.{Token}
 use Rattle.table.specs.Fresh.{freshOf}
 use Rattle.table.specs.Steps.{planBy, planOf, stepOf}
 use Rattle.table.specs.Table.{stationAt}

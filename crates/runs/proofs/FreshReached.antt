@@ -9,16 +9,16 @@ use Rattle.handshake.specs.History.{departed, arrived}
 use Rattle.handshake.proofs.Sums.{sum-nothing, pairs-nothing}
 use Rattle.handshake.proofs.Webs.{fresh-web}
 use Rattle.station.specs.Held.{noSlot, noToken, slotFor, tokenFor}
-use Rattle.station.specs.Limits.{mostStations}
+use Rattle.rules.specs.Limits.{mostStations}
 use Rattle.station.specs.Sound.{countSound}
 use Rattle.station.specs.Steps.{blank}
-use Rattle.station.specs.declared.held.HeldSlot.the-variants.{NoSlot}
-use Rattle.station.specs.declared.held.HeldToken.the-variants.{NoToken}
+use Rattle.rules.specs.declared.held.HeldSlot.the-variants.{NoSlot}
+use Rattle.rules.specs.declared.held.HeldToken.the-variants.{NoToken}
 use Rattle.station.specs.declared.held.SlotCell.{SlotCell}
 use Rattle.station.specs.declared.held.TokenCell.{TokenCell}
-use Rattle.station.specs.declared.message.Message.{Message}
+use Rattle.rules.specs.declared.message.Message.{Message}
 use Rattle.station.specs.declared.station.Station.{Station}
-use Rattle.station.proofs.Stores.{stored}
+use Rattle.rules.proofs.Stores.{stored}
 use Rattle.table.specs.Fresh.{seatsTo, blankTable, freshOf}
 use Rattle.table.specs.Table.{mostPlaces, stationAt, waitingAt}
 use Rattle.table.specs.Way.{between, onTheWay}

@@ -2,12 +2,12 @@
 use Prim.Native.Nat.{ℕ, _<_}
 use mathlib.Core.Path.{_≡_, _∙_}
 use lib.ListN.{length, length-set}
-use Rattle.station.specs.Limits.{mostStations}
+use Rattle.rules.specs.Limits.{mostStations}
 use Rattle.station.specs.Side.{putSide}
 use Rattle.station.specs.Steps.{putStock}
-use Rattle.station.specs.declared.side.Side.{Side}
+use Rattle.rules.specs.declared.side.Side.{Side}
 use Rattle.station.specs.declared.station.Station.{Station}
-use Rattle.station.proofs.Stores.{stored}
+use Rattle.rules.proofs.Stores.{stored}
 use Rattle.table.specs.Table.{mostPlaces, stationAt, putStation, putPlace}
 use Rattle.table.specs.declared.pool.Waiting.{Waiting}
 use Rattle.table.specs.declared.table.Table.{Table}

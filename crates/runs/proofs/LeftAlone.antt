@@ -5,18 +5,18 @@ use mathlib.Core.Bool.{_&&_}
 use native.Mathlib.Omega.{arith}
 use native.Mathlib.Nat.{add-zero}
 use lib.Dec.{eqb, ltb, leb}
-use Rattle.station.specs.Half.{halfAbove}
-use Rattle.station.specs.Limits.{lastClock}
-use Rattle.station.specs.Rules.{agree, fillBy, dropSlotBy, openSlotBy, dropTokenBy, makeTokenBy, fill, dropSlot, openSlot, dropToken, makeToken}
-use Rattle.station.specs.Taking.{takeOf}
-use Rattle.station.specs.declared.held.HeldSlot.{HeldSlot}
-use Rattle.station.specs.declared.held.HeldSlot.the-variants.{NoSlot, OneSlot}
-use Rattle.station.specs.declared.held.HeldToken.{HeldToken}
-use Rattle.station.specs.declared.held.HeldToken.the-variants.{NoToken, OneToken}
-use Rattle.station.specs.declared.message.Message.{Message}
-use Rattle.station.specs.declared.rules.Ruled.{Ruled}
-use Rattle.station.specs.declared.side.Side.{Side}
-use Rattle.station.proofs.InOrder.{chosen}
+use Rattle.rules.specs.Half.{halfAbove}
+use Rattle.rules.specs.Limits.{lastClock}
+use Rattle.rules.specs.Rules.{agree, fillBy, dropSlotBy, openSlotBy, dropTokenBy, makeTokenBy, fill, dropSlot, openSlot, dropToken, makeToken}
+use Rattle.rules.specs.Taking.{takeOf}
+use Rattle.rules.specs.declared.held.HeldSlot.{HeldSlot}
+use Rattle.rules.specs.declared.held.HeldSlot.the-variants.{NoSlot, OneSlot}
+use Rattle.rules.specs.declared.held.HeldToken.{HeldToken}
+use Rattle.rules.specs.declared.held.HeldToken.the-variants.{NoToken, OneToken}
+use Rattle.rules.specs.declared.message.Message.{Message}
+use Rattle.rules.specs.declared.rules.Ruled.{Ruled}
+use Rattle.rules.specs.declared.side.Side.{Side}
+use Rattle.rules.proofs.InOrder.{chosen}
 
 -- rules 1 to 3 are the receiver's: they leave what it gives
 pub record Takes (x y : Side) : Type 0 where

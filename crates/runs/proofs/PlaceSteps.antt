@@ -8,9 +8,9 @@ use lib.Dec.{ltb, eqb}
 use borrow.Author.Tests.{ltb-true}
 use Rattle.handshake.specs.History.{Entry}
 use Rattle.handshake.specs.Web.{Present}
-use Rattle.station.specs.Outcome.{first, orElse}
+use Rattle.rules.specs.Refusals.{first, orElse}
 use Rattle.station.specs.Steps.{messageFor, showAnswer, showing, showOf}
-use Rattle.station.specs.declared.message.Message.{Message}
+use Rattle.rules.specs.declared.message.Message.{Message}
 use Rattle.station.specs.declared.message.Shown.{Shown}
 use Rattle.table.specs.Steps.{placePlan, planned, placeAnswer, loseBy, planBy}
 use Rattle.table.specs.Table.{mostPlaces, stationAt, waitingAt, lowestEmpty}

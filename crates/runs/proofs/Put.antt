@@ -14,9 +14,9 @@ use Rattle.station.specs.Side.{putSide}
 use Rattle.station.specs.Steps.{putStock}
 use Rattle.station.specs.declared.held.SlotCell.{SlotCell}
 use Rattle.station.specs.declared.held.TokenCell.{TokenCell}
-use Rattle.station.specs.declared.side.Side.{Side}
+use Rattle.rules.specs.declared.side.Side.{Side}
 use Rattle.station.specs.declared.station.Station.{Station}
-use Rattle.station.proofs.Stores.{stored}
+use Rattle.rules.proofs.Stores.{stored}
 use Rattle.table.specs.Table.{stationAt, putStation}
 use Rattle.table.specs.declared.table.Table.{Table}
 use Rattle.runs.proofs.Seen.{slotSeen, tokenSeen, channelOf, webOf, endOf}

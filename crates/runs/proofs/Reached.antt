@@ -14,12 +14,12 @@ use Rattle.handshake.proofs.Passages.{Passage}
 use Rattle.handshake.proofs.Sums.{sum-one, sum-most, pairs-same}
 use Rattle.handshake.proofs.Webs.{waits-keep}
 use Rattle.station.specs.Held.{slotFor, tokenFor}
-use Rattle.station.specs.Limits.{mostIntake, mostValue}
-use Rattle.station.specs.declared.held.HeldSlot.{HeldSlot}
-use Rattle.station.specs.declared.held.HeldSlot.the-variants.{NoSlot, OneSlot}
-use Rattle.station.specs.declared.held.HeldToken.{HeldToken}
-use Rattle.station.specs.declared.held.HeldToken.the-variants.{NoToken, OneToken}
-use Rattle.station.specs.declared.message.Message.{Message}
+use Rattle.rules.specs.Limits.{mostIntake, mostValue}
+use Rattle.rules.specs.declared.held.HeldSlot.{HeldSlot}
+use Rattle.rules.specs.declared.held.HeldSlot.the-variants.{NoSlot, OneSlot}
+use Rattle.rules.specs.declared.held.HeldToken.{HeldToken}
+use Rattle.rules.specs.declared.held.HeldToken.the-variants.{NoToken, OneToken}
+use Rattle.rules.specs.declared.message.Message.{Message}
 use Rattle.station.specs.declared.station.Station.{Station}
 use Rattle.table.specs.Sound.{tableSound}
 use Rattle.table.specs.Table.{stationAt, waitingAt, putStation}

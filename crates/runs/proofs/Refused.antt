@@ -8,12 +8,13 @@ use native.Mathlib.Omega.{arith}
 use lib.Dec.{eqb}
 use borrow.Author.Tests.{eq-eqb, ne-eqb}
 use Rattle.handshake.specs.History.{Entry}
-use Rattle.station.specs.Answers.{notSound, valueLimit}
-use Rattle.station.specs.Outcome.{noReport, first, orElse}
-use Rattle.station.specs.declared.held.HeldSlot.{HeldSlot}
-use Rattle.station.specs.declared.held.HeldSlot.the-variants.{NoSlot, OneSlot}
-use Rattle.station.specs.declared.held.HeldToken.{HeldToken}
-use Rattle.station.specs.declared.held.HeldToken.the-variants.{NoToken, OneToken}
+use Rattle.rules.specs.Answers.{notSound, valueLimit}
+use Rattle.rules.specs.Report.{noReport}
+use Rattle.rules.specs.Refusals.{first, orElse}
+use Rattle.rules.specs.declared.held.HeldSlot.{HeldSlot}
+use Rattle.rules.specs.declared.held.HeldSlot.the-variants.{NoSlot, OneSlot}
+use Rattle.rules.specs.declared.held.HeldToken.{HeldToken}
+use Rattle.rules.specs.declared.held.HeldToken.the-variants.{NoToken, OneToken}
 use Rattle.table.specs.Steps.{refusedPlan, planned, applied}
 use Rattle.table.specs.declared.planning.Plan.{Plan}
 use Rattle.table.specs.declared.steps.Step.{Step}

@@ -7,9 +7,9 @@ use mathlib.Core.List.{List, [], _∷_, map}
 use Rattle.handshake.specs.History.{departure, transfer}
 use Rattle.handshake.specs.Sums.{sumBelow}
 use Rattle.station.specs.declared.station.Station.{Station}
-use Rattle.station.specs.Below.{allBelow}
+use Rattle.rules.specs.Below.{allBelow}
 use Rattle.station.specs.Sound.{stationSound, messageSound}
-use Rattle.station.specs.Taking.{takeOf}
+use Rattle.rules.specs.Taking.{takeOf}
 use Rattle.station.specs.Steps.{addOf, drawOf, showOf, receiveOf}
 use Rattle.table.specs.declared.pool.Waiting.{Waiting}
 use Rattle.table.specs.declared.pool.Waiting.the-variants.{Empty, One}

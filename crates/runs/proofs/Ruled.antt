@@ -12,20 +12,20 @@ use Rattle.handshake.specs.Clauses.{Standing, GiverShows, ReceiverShows}
 use Rattle.handshake.specs.Turn.{Turn}
 use Rattle.handshake.proofs.Keeps.{not-both, same-one}
 use Rattle.handshake.proofs.Rules.{rests, fills, drops-slot, opens-slot, drops-token, makes-token}
-use Rattle.station.specs.Limits.{lastClock}
-use Rattle.station.specs.Rules.{acts, agree, fillBy, dropSlotBy, openSlotBy, dropTokenBy, makeTokenBy, give}
-use Rattle.station.specs.Rules.{rests as restsAt}
-use Rattle.station.specs.Side.{putValue, putSlot, putToken, putDestination}
-use Rattle.station.specs.Clocks.{destinationNext}
-use Rattle.station.proofs.Below.{both-hold}
-use Rattle.station.specs.declared.held.HeldSlot.{HeldSlot}
-use Rattle.station.specs.declared.held.HeldSlot.the-variants.{NoSlot, OneSlot}
-use Rattle.station.specs.declared.held.HeldToken.{HeldToken}
-use Rattle.station.specs.declared.held.HeldToken.the-variants.{NoToken, OneToken}
-use Rattle.station.specs.declared.held.Slot.{Slot}
-use Rattle.station.specs.declared.held.Token.{Token}
-use Rattle.station.specs.declared.message.Message.{Message}
-use Rattle.station.specs.declared.side.Side.{Side}
+use Rattle.rules.specs.Limits.{lastClock}
+use Rattle.rules.specs.Rules.{acts, agree, fillBy, dropSlotBy, openSlotBy, dropTokenBy, makeTokenBy, give}
+use Rattle.rules.specs.Rules.{rests as restsAt}
+use Rattle.rules.specs.Side.{putValue, putSlot, putToken, putDestination}
+use Rattle.rules.specs.Clocks.{destinationNext}
+use Rattle.rules.proofs.Below.{both-hold}
+use Rattle.rules.specs.declared.held.HeldSlot.{HeldSlot}
+use Rattle.rules.specs.declared.held.HeldSlot.the-variants.{NoSlot, OneSlot}
+use Rattle.rules.specs.declared.held.HeldToken.{HeldToken}
+use Rattle.rules.specs.declared.held.HeldToken.the-variants.{NoToken, OneToken}
+use Rattle.rules.specs.declared.held.Slot.{Slot}
+use Rattle.rules.specs.declared.held.Token.{Token}
+use Rattle.rules.specs.declared.message.Message.{Message}
+use Rattle.rules.specs.declared.side.Side.{Side}
 use Rattle.runs.specs.Demand3.{waitsFor}
 use Rattle.runs.proofs.Seen.{slotSeen, tokenSeen, inward, outward, arrivesBy, departsBy}
 

@@ -5,12 +5,12 @@ use mathlib.Core.Option.{Option, none, some}
 use Rattle.handshake.specs.Channel.{Held, Channel, Event, quiet, departs, arrives}
 use Rattle.handshake.specs.Web.{Web, End, Letter}
 use Rattle.station.specs.Held.{slotFor, tokenFor}
-use Rattle.station.specs.declared.held.HeldSlot.{HeldSlot}
-use Rattle.station.specs.declared.held.HeldSlot.the-variants.{NoSlot, OneSlot}
-use Rattle.station.specs.declared.held.HeldToken.{HeldToken}
-use Rattle.station.specs.declared.held.HeldToken.the-variants.{NoToken, OneToken}
-use Rattle.station.specs.declared.message.Message.{Message}
-use Rattle.station.specs.declared.side.Side.{Side}
+use Rattle.rules.specs.declared.held.HeldSlot.{HeldSlot}
+use Rattle.rules.specs.declared.held.HeldSlot.the-variants.{NoSlot, OneSlot}
+use Rattle.rules.specs.declared.held.HeldToken.{HeldToken}
+use Rattle.rules.specs.declared.held.HeldToken.the-variants.{NoToken, OneToken}
+use Rattle.rules.specs.declared.message.Message.{Message}
+use Rattle.rules.specs.declared.side.Side.{Side}
 use Rattle.station.specs.declared.station.Station.{Station}
 use Rattle.table.specs.Table.{stationAt}
 use Rattle.table.specs.declared.table.Table.{Table}

@@ -8,12 +8,15 @@ use lib.Dec.{ltb}
 use borrow.Author.Tests.{ltb-true, ltb-false, le-ltb}
 use Rattle.handshake.specs.History.{Entry}
 use Rattle.handshake.proofs.Sums.{sum-most, sum-term}
-use Rattle.station.specs.Limits.{mostIntake, mostValue}
-use Rattle.station.specs.Outcome.{noReport, first, answered}
-use Rattle.station.specs.Steps.{told, putStock, amountSound, addAnswer, drawAnswer, addOf, drawOf}
+use Rattle.rules.specs.Limits.{mostIntake, mostValue}
+use Rattle.rules.specs.Report.{noReport}
+use Rattle.rules.specs.Refusals.{first}
+use Rattle.station.specs.Outcome.{answered}
+use Rattle.rules.specs.Stock.{amountSound}
+use Rattle.station.specs.Steps.{told, putStock, addAnswer, drawAnswer, addOf, drawOf}
 use Rattle.station.specs.declared.outcome.Outcome.{Outcome}
 use Rattle.station.specs.declared.station.Station.{Station}
-use Rattle.station.proofs.Stores.{stored}
+use Rattle.rules.proofs.Stores.{stored}
 use Rattle.table.specs.Steps.{stationPlan, planned, atStation, planBy}
 use Rattle.table.specs.Table.{stationAt, putStation}
 use Rattle.table.specs.declared.steps.Step.{Step}

@@ -4,7 +4,7 @@ use mathlib.Core.Bool.{false≢true}
 use borrow.Author.Tests.{eqb-false}
 use Rattle.handshake.specs.History.{at, transfer}
 use Rattle.handshake.specs.Sums.{sumBelow}
-use Rattle.station.specs.Below.{allBelow}
+use Rattle.rules.specs.Below.{allBelow}
 use Rattle.station.specs.Sound.{stationSound, messageSound}
 use Rattle.station.specs.Steps.{addOf, drawOf, showOf}
 use Rattle.table.specs.Table.{firstFrom}

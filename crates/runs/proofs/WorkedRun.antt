@@ -2,9 +2,9 @@
 -- once. So demand 3's runs are not empty of meaning. Assumes nothing.
 use mathlib.Core.Path.{_≡_, refl}
 use Rattle.handshake.specs.Sums.{sumBelow}
-use Rattle.station.specs.Below.{allBelow}
+use Rattle.rules.specs.Below.{allBelow}
 use Rattle.station.specs.Sound.{stationSound, messageSound}
-use Rattle.station.specs.Taking.{takeOf}
+use Rattle.rules.specs.Taking.{takeOf}
 use Rattle.station.specs.Steps.{addOf, drawOf, showOf, receiveOf}
 use Rattle.table.specs.Table.{firstFrom}
 use Rattle.table.specs.Sound.{tableSound}

@@ -4,19 +4,20 @@ use Prim.Native.Nat.{ℕ, zero, suc, _+_, _-_, min}
 use mathlib.Core.Bool.{cond, _&&_}
 use mathlib.Core.List.{List, [], _∷_, _++_}
 use lib.Dec.{eqb, ltb}
-use Rattle.station.specs.declared.held.Slot.{Slot}
-use Rattle.station.specs.declared.held.HeldSlot.{HeldSlot}
-use Rattle.station.specs.declared.held.HeldSlot.the-variants.{NoSlot, OneSlot}
-use Rattle.station.specs.declared.held.HeldToken.{HeldToken}
-use Rattle.station.specs.declared.held.HeldToken.the-variants.{NoToken, OneToken}
-use Rattle.station.specs.declared.message.Message.{Message}
-use Rattle.station.specs.declared.side.Side.{Side}
-use Rattle.station.specs.declared.rules.Ruled.{Ruled}
-use Rattle.station.specs.Limits.{lastClock}
-use Rattle.station.specs.Outcome.{noReport, answered}
-use Rattle.station.specs.Side.{putValue, putSlot, putToken}
-use Rattle.station.specs.Rules.{acts, rests, fill, dropSlot, openSlot, dropToken, give, makeToken}
-use Rattle.station.specs.Taking.{reported}
+use Rattle.rules.specs.declared.held.Slot.{Slot}
+use Rattle.rules.specs.declared.held.HeldSlot.{HeldSlot}
+use Rattle.rules.specs.declared.held.HeldSlot.the-variants.{NoSlot, OneSlot}
+use Rattle.rules.specs.declared.held.HeldToken.{HeldToken}
+use Rattle.rules.specs.declared.held.HeldToken.the-variants.{NoToken, OneToken}
+use Rattle.rules.specs.declared.message.Message.{Message}
+use Rattle.rules.specs.declared.side.Side.{Side}
+use Rattle.rules.specs.declared.rules.Ruled.{Ruled}
+use Rattle.rules.specs.Limits.{lastClock}
+use Rattle.rules.specs.Report.{noReport}
+use Rattle.station.specs.Outcome.{answered}
+use Rattle.rules.specs.Side.{putValue, putSlot, putToken}
+use Rattle.rules.specs.Rules.{acts, rests, fill, dropSlot, openSlot, dropToken, give, makeToken}
+use Rattle.rules.specs.Taking.{reported}
 use Rattle.station.specs.Steps.{told, putStock, drawAnswer}
 use Rattle.table.specs.declared.steps.Step.{Step}
 use Rattle.table.specs.declared.steps.Step.the-variants.{Add, Draw, Send, Deliver}

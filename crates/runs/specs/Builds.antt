@@ -1,16 +1,16 @@
 -- Builds put together from given parts, so that one part can be a wrong one. With the right parts it is the right build.
 use Prim.Native.Nat.{ℕ}
 use Rattle.station.specs.declared.station.Station.{Station}
-use Rattle.station.specs.declared.message.Message.{Message}
+use Rattle.rules.specs.declared.message.Message.{Message}
 use Rattle.station.specs.declared.outcome.Outcome.{Outcome}
-use Rattle.station.specs.declared.side.Side.{Side}
-use Rattle.station.specs.declared.rules.Ruled.{Ruled}
-use Rattle.station.specs.declared.taking.Taken.{Taken}
-use Rattle.station.specs.Answers.{done, emptyPlace}
+use Rattle.rules.specs.declared.side.Side.{Side}
+use Rattle.rules.specs.declared.rules.Ruled.{Ruled}
+use Rattle.rules.specs.declared.taking.Taken.{Taken}
+use Rattle.rules.specs.Answers.{done, emptyPlace}
 use Rattle.station.specs.Outcome.{answered}
 use Rattle.station.specs.Side.{sideFor}
-use Rattle.station.specs.Rules.{fill, dropSlot, openSlot, dropToken, makeToken}
-use Rattle.station.specs.Taking.{reported}
+use Rattle.rules.specs.Rules.{fill, dropSlot, openSlot, dropToken, makeToken}
+use Rattle.rules.specs.Taking.{reported}
 use Rattle.station.specs.Steps.{drawOf, receiveAnswer, received, receiveOf}
 use Rattle.table.specs.declared.pool.Waiting.{Waiting}
 use Rattle.table.specs.declared.pool.Waiting.the-variants.{Empty, One}

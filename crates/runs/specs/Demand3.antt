@@ -6,13 +6,13 @@ use mathlib.Core.List.{List}
 use mathlib.Core.Logic.{_≢_}
 use mathlib.Core.Option.{some}
 use Rattle.handshake.specs.History.{Transfer, transfer, arrival, at, Belong, Pairing, departed, arrived}
-use Rattle.station.specs.Answers.{notSound, valueLimit}
+use Rattle.rules.specs.Answers.{notSound, valueLimit}
 use Rattle.station.specs.Held.{slotFor, tokenFor}
-use Rattle.station.specs.Rules.{agree}
-use Rattle.station.specs.declared.held.HeldSlot.{HeldSlot}
-use Rattle.station.specs.declared.held.HeldSlot.the-variants.{NoSlot, OneSlot}
-use Rattle.station.specs.declared.held.HeldToken.the-variants.{OneToken}
-use Rattle.station.specs.declared.held.Token.{Token}
+use Rattle.rules.specs.Rules.{agree}
+use Rattle.rules.specs.declared.held.HeldSlot.{HeldSlot}
+use Rattle.rules.specs.declared.held.HeldSlot.the-variants.{NoSlot, OneSlot}
+use Rattle.rules.specs.declared.held.HeldToken.the-variants.{OneToken}
+use Rattle.rules.specs.declared.held.Token.{Token}
 use Rattle.table.specs.Sound.{tableSound}
 use Rattle.table.specs.Table.{stationAt}
 use Rattle.table.specs.Way.{atStations, onTheWay}

@@ -7,7 +7,7 @@ use native.Mathlib.Numerals.{add-one}
 use native.Mathlib.Omega.{arith}
 use lib.ListN.{length, length-append}
 use lib.Seq.{sets}
-use Rattle.station.specs.Limits.{mostStations, mostValue}
+use Rattle.rules.specs.Limits.{mostStations, mostValue}
 use Rattle.table.specs.declared.table.Table.{Table}
 use Rattle.table.specs.declared.way.Summed.{Summed}
 use Rattle.table.specs.Table.{stationAt}

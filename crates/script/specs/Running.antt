@@ -4,8 +4,8 @@ use mathlib.Core.Bool.{Bool, cond, not}
 use mathlib.Core.List.{List}
 use lib.Dec.{ltb}
 use lib.ListN.{length, drop}
-use Rattle.station.specs.Answers.{done, notSound, badLine, longScript}
-use Rattle.station.specs.Outcome.{first}
+use Rattle.rules.specs.Answers.{done, notSound, badLine, longScript}
+use Rattle.rules.specs.Refusals.{first}
 use Rattle.table.specs.declared.steps.Step.{Step}
 use Rattle.table.specs.declared.steps.Step.the-variants.{Lose}
 use Rattle.table.specs.declared.table.Table.{Table}

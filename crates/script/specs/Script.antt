@@ -4,8 +4,8 @@ use mathlib.Core.Bool.{cond}
 use mathlib.Core.List.{List, [], _∷_, _++_}
 use lib.Dec.{ltb}
 use lib.ListN.{length}
-use Rattle.station.specs.Answers.{badLine, longScript}
-use Rattle.station.specs.Outcome.{noReport}
+use Rattle.rules.specs.Answers.{badLine, longScript}
+use Rattle.rules.specs.Report.{noReport}
 use Rattle.table.specs.declared.table.Table.{Table}
 use Rattle.table.specs.declared.stepping.Stepped.{Stepped}
 use Rattle.table.specs.Table.{stationAt}

@@ -13,7 +13,7 @@ use crate::running::line_at;
 use crate::running::open;
 use crate::running::past_line;
 use crate::running::refusal_of;
-use station::answers;
+use rules::answers;
 use table::planning::Change;
 use table::planning::needs_place;
 use table::planning::place_looked_at;

@@ -1,22 +1,22 @@
 -- Answers looked for in order, and what follows where the answer is 0. Assumes nothing.
 use Prim.Native.Nat.{ℕ, zero, suc, _+_, _<_, _≤_}
 use mathlib.Core.Path.{_≡_, refl}
-use mathlib.Core.Bool.{Bool, true, false, not}
-use native.Mathlib.Omega.{arith}
-use lib.Dec.{ltb, leb, eqb}
-use borrow.Author.Tests.{ltb-true, ltb-false, leb-true, not-false, eqb-true, eqb-false}
+use mathlib.Core.Bool.{true, not}
+use lib.Dec.{ltb, eqb}
+use borrow.Author.Tests.{ltb-true, ltb-false, not-false, eqb-true, eqb-false}
+use Rattle.rules.specs.declared.message.Message.{Message}
+use Rattle.rules.specs.Limits.{mostIntake, mostValue}
+use Rattle.rules.specs.Message.{noMessage}
+use Rattle.rules.specs.Stock.{amountSound}
+use Rattle.rules.specs.Rules.{fill}
+use Rattle.rules.proofs.Below.{both-hold}
+use Rattle.rules.proofs.Refusing.{passed}
 use Rattle.station.specs.declared.station.Station.{Station}
-use Rattle.station.specs.declared.message.Message.{Message}
 use Rattle.station.specs.declared.outcome.Outcome.{Outcome}
-use Rattle.station.specs.Limits.{mostAmount, mostIntake, mostValue}
 use Rattle.station.specs.Side.{sideFor}
 use Rattle.station.specs.Sound.{stationSound, messageSound}
-use Rattle.station.specs.Rules.{fill}
-use Rattle.station.specs.Taking.{Takes}
-use Rattle.station.specs.Outcome.{refused, first, answered}
-use Rattle.station.specs.Steps.{noMessage, showing, amountSound, addAnswer, drawAnswer, showAnswer, endsBelow, receiveAnswer}
-use Rattle.station.proofs.Below.{both-hold}
-use Rattle.station.proofs.Parts.{station-parts, message-parts, token-fits}
+use Rattle.station.specs.Outcome.{refused, answered}
+use Rattle.station.specs.Steps.{showing, addAnswer, drawAnswer, showAnswer, endsBelow, meetAnswer, receiveAnswer}
 
 pub when-done : {n : ℕ} (s : Station) (d : Outcome) → n ≡ 0 → d ≡ answered n s d
 when-done s d e = rw e
@@ -31,14 +31,6 @@ shown-done m e = rw e
 pub shown-refused : (n : ℕ) (m : Message) → (n ≡ 0 → ⊥) → record { answer = n; message = noMessage } ≡ showing n m
 shown-refused zero m f = absurd (f refl)
 shown-refused (suc n) m f = refl
-
--- an answer of 0 has passed its first test
-pub passed : (t : Bool) (n : ℕ) {later : ℕ} → first t (suc n) later ≡ 0 → (t ≡ false) × (later ≡ 0)
-passed false n e = (refl, e)
-passed true n e = absurd (omega arith)
-
-pub amount-small : (amount : ℕ) → amountSound amount ≡ true → amount ≤ mostAmount
-amount-small amount e = leb-true _ _ (both-hold (leb 1 amount) _ e .1)
 
 -- what an add that is done has room for
 pub record Added (s : Station) (amount : ℕ) : Type 0 where
@@ -70,6 +62,26 @@ shown s to e =
     let three = passed (eqb to (s .number)) 2 (two .1) in
     record { sound = not-false _ (one .0); below = ltb-true _ _ (not-false _ (two .0)); other = eqb-false _ _ (three .0) }
 
+-- what a message that the rules see has passed
+pub record Met (s : Station) (m : Message) : Type 0 where
+  pub sound : stationSound s ≡ true
+  pub message : messageSound m ≡ true
+  pub ends : endsBelow s m ≡ true
+  pub to : m .to ≡ s .number
+
+pub met : (s : Station) (m : Message) → meetAnswer s m ≡ 0 → Met s m
+met s m e =
+    let one = passed (not (stationSound s)) 0 e in
+    let two = passed (not (messageSound m)) 8 (one .1) in
+    let three = passed (not (endsBelow s m)) 1 (two .1) in
+    let four = passed (not (eqb (m .to) (s .number))) 10 (three .1) in
+    record {
+      sound = not-false _ (one .0);
+      message = not-false _ (two .0);
+      ends = not-false _ (three .0);
+      to = eqb-true _ _ (not-false _ (four .0));
+    }
+
 -- what a message that is received has passed
 pub record Received (s : Station) (m : Message) : Type 0 where
   pub sound : stationSound s ≡ true
@@ -91,17 +103,6 @@ received s m e =
       from = ltb-true _ _ (both-hold (ltb (m .from) (s .count)) _ (not-false _ (three .0)) .0);
       to = eqb-true _ _ (not-false _ (four .0));
       room = ltb-false _ _ (five .0);
-    }
-
--- the rules may take it
-pub takes : (s : Station) (m : Message) → Received s m → Takes (sideFor s (m .from)) m
-takes s m r =
-    let shows = message-parts m (r .message) in
-    record {
-      value = station-parts s (r .sound) .value;
-      shown = shows .value;
-      token = token-fits (m .token) (m .source) (shows .token);
-      room = r .room;
     }
 
 -- an entry point tells the answer that was found

@@ -5,20 +5,20 @@ use mathlib.Core.Bool.{Bool, true, false, cond, _&&_, and-false}
 use native.Mathlib.Omega.{arith}
 use lib.Dec.{eqb, ltb, leb}
 use borrow.Author.Tests.{ltb-true, eqb-true, lt-ltb, le-leb}
-use Rattle.station.specs.declared.held.HeldSlot.{HeldSlot}
-use Rattle.station.specs.declared.held.HeldSlot.the-variants.{NoSlot, OneSlot}
-use Rattle.station.specs.declared.held.HeldToken.{HeldToken}
-use Rattle.station.specs.declared.held.HeldToken.the-variants.{NoToken, OneToken}
-use Rattle.station.specs.declared.message.Message.{Message}
-use Rattle.station.specs.declared.side.Side.{Side}
-use Rattle.station.specs.Limits.{mostValue, lastClock}
-use Rattle.station.specs.Half.{halfAbove}
-use Rattle.station.specs.Side.{putValue, putSlot}
+use Rattle.rules.specs.declared.held.HeldSlot.{HeldSlot}
+use Rattle.rules.specs.declared.held.HeldSlot.the-variants.{NoSlot, OneSlot}
+use Rattle.rules.specs.declared.held.HeldToken.{HeldToken}
+use Rattle.rules.specs.declared.held.HeldToken.the-variants.{NoToken, OneToken}
+use Rattle.rules.specs.declared.message.Message.{Message}
+use Rattle.rules.specs.declared.side.Side.{Side}
+use Rattle.rules.specs.Limits.{mostValue, lastClock}
+use Rattle.rules.specs.Half.{halfAbove}
+use Rattle.rules.specs.Side.{putValue, putSlot}
 use Rattle.station.specs.Sound.{slotSound, tokenSound}
-use Rattle.station.specs.Rules.{acts, rests, agree, fill, fillBy, dropSlot, dropSlotBy, openSlot, openSlotBy, dropTokenBy, makeTokenBy}
-use Rattle.station.specs.Taking.{takeOf}
-use Rattle.station.proofs.Below.{needed}
-use Rattle.station.proofs.Signed.{half-cut}
+use Rattle.rules.specs.Rules.{acts, rests, agree, fill, fillBy, dropSlot, dropSlotBy, openSlot, openSlotBy, dropTokenBy, makeTokenBy}
+use Rattle.rules.specs.Taking.{takeOf}
+use Rattle.rules.proofs.Below.{needed}
+use Rattle.rules.proofs.Signed.{half-cut}
 use Rattle.station.proofs.Parts.{SoundMessage}
 
 -- side x is sound, and its clocks are where those of side o were or later

@@ -1,10 +1,6 @@
-pub mod Below
-pub mod Stores
-pub mod Signed
-pub mod Ruling
 pub mod Parts
 pub mod Answering
-pub mod InOrder
+pub mod ByRules
 pub mod KeepsSide
 pub mod KeepsCells
 pub mod Keeps

@@ -1,20 +1,21 @@
 -- Soundness of a station and of a message, part by part. Assumes nothing.
 use Prim.Native.Nat.{ℕ, _<_, _≤_}
-use mathlib.Core.Path.{_≡_}
+use mathlib.Core.Path.{_≡_, refl}
 use mathlib.Core.Bool.{true, false, _||_, not, and-false}
 use lib.Dec.{ltb, leb, eqb}
 use borrow.Author.Tests.{ltb-true, leb-true, lt-ltb, le-leb, eqb-false, not-true}
-use Rattle.station.specs.declared.clocks.SourceClock.{SourceClock}
-use Rattle.station.specs.declared.held.HeldToken.{HeldToken}
-use Rattle.station.specs.declared.held.HeldToken.the-variants.{NoToken, OneToken}
+use Rattle.rules.specs.declared.clocks.SourceClock.{SourceClock}
+use Rattle.rules.specs.declared.held.HeldToken.{HeldToken}
+use Rattle.rules.specs.declared.held.HeldToken.the-variants.{NoToken, OneToken}
 use Rattle.station.specs.declared.station.Station.{Station}
-use Rattle.station.specs.declared.message.Message.{Message}
-use Rattle.station.specs.Limits.{mostStations, mostIntake, mostValue, lastClock}
+use Rattle.rules.specs.declared.message.Message.{Message}
+use Rattle.rules.specs.Limits.{mostStations, mostIntake, mostValue, lastClock}
 use Rattle.station.specs.Held.{slotFor, tokenFor}
-use Rattle.station.specs.Below.{allBelow}
-use Rattle.station.specs.Sound.{slotSound, tokenSound, holdsNothing, isPeer, clockSound, cellsSound, stationSound, messageSound}
-use Rattle.station.specs.Taking.{tokenFits}
-use Rattle.station.proofs.Below.{needed, all-at, all-from}
+use Rattle.rules.specs.Below.{allBelow}
+use Rattle.rules.specs.Clocks.{clockSound}
+use Rattle.station.specs.Sound.{slotSound, tokenSound, holdsNothing, isPeer, cellsSound, stationSound, messageSound}
+use Rattle.rules.specs.Taking.{tokenSmall, tokenFits}
+use Rattle.rules.proofs.Below.{needed, all-at, all-from}
 
 pub record SoundStation (s : Station) : Type 0 where
   pub least : 2 ≤ s .count
@@ -89,3 +90,7 @@ message-parts m e =
 pub token-fits : (h : HeldToken) (clock : SourceClock) → tokenSound h clock ≡ true → tokenFits h
 token-fits NoToken clock e = tt
 token-fits (OneToken t) clock e = leb-true _ _ (needed (leb (t .quantity) mostValue) (λ f. simp (f, and-false) at e))
+
+pub token-small : (h : HeldToken) (clock : SourceClock) → tokenSound h clock ≡ true → tokenSmall h ≡ true
+token-small NoToken clock e = refl
+token-small (OneToken t) clock e = needed (leb (t .quantity) mostValue) (λ f. simp (f, and-false) at e)

@@ -1,12 +1,5 @@
-pub mod Limits
-pub mod Answers
-pub mod Clocks
 pub mod Held
-pub mod Below
 pub mod Sound
 pub mod Outcome
-pub mod Half
 pub mod Side
-pub mod Rules
-pub mod Taking
 pub mod Steps

@@ -1,24 +1,28 @@
 -- The entry points of one station: what each answers, under which conditions in which order, and what it does.
 use Prim.Native.Nat.{ℕ, zero, suc, _+_, _-_, min}
 use mathlib.Core.Bool.{Bool, not, _&&_}
-use lib.Dec.{ltb, leb, eqb}
+use mathlib.Core.List.{List, [], _∷_, _++_}
+use lib.Dec.{ltb, eqb}
 use lib.ListN.{replicate}
-use Rattle.station.specs.declared.held.HeldSlot.the-variants.{NoSlot}
-use Rattle.station.specs.declared.held.HeldToken.the-variants.{NoToken}
+use Rattle.rules.specs.declared.message.Message.{Message}
+use Rattle.rules.specs.declared.report.Report.{Report}
+use Rattle.rules.specs.declared.stock.Stock.{Stock}
+use Rattle.rules.specs.declared.taking.Taken.{Taken}
+use Rattle.rules.specs.Limits.{mostStations, mostIntake, mostValue}
+use Rattle.rules.specs.Answers.{done, notSound, notBelowCount, sameStation, badAmount, intakeLimit, noRecord, valueLimit, forAnother}
+use Rattle.rules.specs.Message.{noMessage}
+use Rattle.rules.specs.Report.{noReport}
+use Rattle.rules.specs.Refusals.{Refusal, when, answerOf}
+use Rattle.rules.specs.Stock.{amountSound}
+use Rattle.rules.specs.Rules.{fill}
+use Rattle.rules.specs.Taking.{takeOf}
 use Rattle.station.specs.declared.station.Station.{Station}
-use Rattle.station.specs.declared.message.Message.{Message}
 use Rattle.station.specs.declared.message.Shown.{Shown}
-use Rattle.station.specs.declared.outcome.Report.{Report}
 use Rattle.station.specs.declared.outcome.Outcome.{Outcome}
-use Rattle.station.specs.declared.taking.Taken.{Taken}
-use Rattle.station.specs.Limits.{mostStations, mostAmount, mostIntake, mostValue}
-use Rattle.station.specs.Answers.{done, notSound, notBelowCount, sameStation, badAmount, intakeLimit, noRecord, valueLimit, forAnother}
 use Rattle.station.specs.Held.{noSlot, noToken, slotFor, tokenFor}
 use Rattle.station.specs.Side.{sideFor, putSide}
 use Rattle.station.specs.Sound.{countSound, stationSound, messageSound}
-use Rattle.station.specs.Rules.{fill}
-use Rattle.station.specs.Taking.{takeOf}
-use Rattle.station.specs.Outcome.{noReport, refused, first, answered}
+use Rattle.station.specs.Outcome.{refused, answered}
 
 -- a step done: its result, its report and the station after it
 abbrev pub told : ℕ → Report → Station → Outcome
@@ -38,16 +42,15 @@ blank number count =
       tokens = replicate mostStations noToken;
     }
 
+abbrev pub freshRefusals : ℕ → ℕ → List Refusal
+freshRefusals number count = when (not (countSound count)) notSound ∷ when (not (ltb number count)) notBelowCount ∷ []
+
 abbrev pub freshAnswer : ℕ → ℕ → ℕ
-freshAnswer number count = first (not (countSound count)) notSound (first (not (ltb number count)) notBelowCount done)
+freshAnswer number count = answerOf (freshRefusals number count)
 
 -- a refused making hands back every number 0 and nothing held
 unfoldable pub freshOf : ℕ → ℕ → Outcome
 freshOf number count = answered (freshAnswer number count) (blank 0 0) (told 0 noReport (blank number count))
-
--- an amount is 1 to 1,000,000,000
-abbrev pub amountSound : ℕ → Bool
-amountSound amount = leb 1 amount && leb amount mostAmount
 
 -- a station with another value and intake
 abbrev pub putStock : Station → ℕ → ℕ → Station
@@ -63,21 +66,32 @@ putStock s value intake =
       tokens = s .tokens;
     }
 
+-- what is told at a station whose stock is then that one
+abbrev pub stockOutcome : Station → Stock → Outcome
+stockOutcome s k = record { answer = k .answer; result = k .result; report = noReport; station = putStock s (k .value) (k .intake) }
+
 -- Add raises value and intake. Result: the new value.
+abbrev pub addRefusals : Station → ℕ → List Refusal
+addRefusals s amount =
+    when (not (stationSound s)) notSound
+    ∷ when (not (amountSound amount)) badAmount
+    ∷ when (ltb mostIntake (s .intake + amount)) intakeLimit
+    ∷ when (ltb mostValue (s .value + amount)) valueLimit
+    ∷ []
+
 abbrev pub addAnswer : Station → ℕ → ℕ
-addAnswer s amount =
-    first (not (stationSound s)) notSound
-    (first (not (amountSound amount)) badAmount
-    (first (ltb mostIntake (s .intake + amount)) intakeLimit
-    (first (ltb mostValue (s .value + amount)) valueLimit done)))
+addAnswer s amount = answerOf (addRefusals s amount)
 
 unfoldable pub addOf : Station → ℕ → Outcome
 addOf s amount =
     answered (addAnswer s amount) s (told (s .value + amount) noReport (putStock s (s .value + amount) (s .intake + amount)))
 
 -- Draw takes the smaller of the value and the amount asked. Result: what was taken, which may be 0.
+abbrev pub drawRefusals : Station → ℕ → List Refusal
+drawRefusals s amount = when (not (stationSound s)) notSound ∷ when (not (amountSound amount)) badAmount ∷ []
+
 abbrev pub drawAnswer : Station → ℕ → ℕ
-drawAnswer s amount = first (not (stationSound s)) notSound (first (not (amountSound amount)) badAmount done)
+drawAnswer s amount = answerOf (drawRefusals s amount)
 
 unfoldable pub drawOf : Station → ℕ → Outcome
 drawOf s amount =
@@ -97,15 +111,15 @@ messageFor s to =
       token = tokenFor s to;
     }
 
--- every number 0 and nothing held
-abbrev pub noMessage : Message
-noMessage = record { from = 0; to = 0; value = 0; source = record { 0 = 0 }; destination = record { 0 = 0 }; slot = NoSlot; token = NoToken }
+abbrev pub showRefusals : Station → ℕ → List Refusal
+showRefusals s to =
+    when (not (stationSound s)) notSound
+    ∷ when (not (ltb to (s .count))) notBelowCount
+    ∷ when (eqb to (s .number)) sameStation
+    ∷ []
 
 abbrev pub showAnswer : Station → ℕ → ℕ
-showAnswer s to =
-    first (not (stationSound s)) notSound
-    (first (not (ltb to (s .count))) notBelowCount
-    (first (eqb to (s .number)) sameStation done))
+showAnswer s to = answerOf (showRefusals s to)
 
 abbrev pub showing : ℕ → Message → Shown
 showing zero m = record { answer = done; message = m }
@@ -118,14 +132,28 @@ showOf s to = showing (showAnswer s to) (messageFor s to)
 abbrev pub endsBelow : Station → Message → Bool
 endsBelow s m = ltb (m .from) (s .count) && ltb (m .to) (s .count)
 
+-- what is looked at before the rules see the message
+abbrev pub meetRefusals : Station → Message → List Refusal
+meetRefusals s m =
+    when (not (stationSound s)) notSound
+    ∷ when (not (messageSound m)) noRecord
+    ∷ when (not (endsBelow s m)) notBelowCount
+    ∷ when (not (eqb (m .to) (s .number))) forAnother
+    ∷ []
+
+abbrev pub meetAnswer : Station → Message → ℕ
+meetAnswer s m = answerOf (meetRefusals s m)
+
+-- and what rule 1 would bring
+abbrev pub fillRefusals : Station → Message → List Refusal
+fillRefusals s m = when (ltb mostValue (fill (sideFor s (m .from)) m .side .value)) valueLimit ∷ []
+
 -- Receiving: the five rules at the receiver's side for the sender. Result: the amount filled, or 0.
+abbrev pub receiveRefusals : Station → Message → List Refusal
+receiveRefusals s m = meetRefusals s m ++ fillRefusals s m
+
 abbrev pub receiveAnswer : Station → Message → ℕ
-receiveAnswer s m =
-    first (not (stationSound s)) notSound
-    (first (not (messageSound m)) noRecord
-    (first (not (endsBelow s m)) notBelowCount
-    (first (not (eqb (m .to) (s .number))) forAnother
-    (first (ltb mostValue (fill (sideFor s (m .from)) m .side .value)) valueLimit done))))
+receiveAnswer s m = answerOf (receiveRefusals s m)
 
 abbrev pub received : Station → Message → Taken → Outcome
 received s m t = told (t .result) (t .report) (putSide s (m .from) (t .side))

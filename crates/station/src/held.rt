@@ -1,32 +1,7 @@
-// A slot and a token, and what may be held of each.
-use crate::clocks::DestinationClock;
-use crate::clocks::SourceClock;
-
-// What a station asks of another: opened by rule 3.
-pub struct Slot {
-    pub source: SourceClock,
-    pub destination: DestinationClock,
-    pub quantity: u64,
-}
-
-// What a station gives to another: made by rule 5.
-pub struct Token {
-    pub source: SourceClock,
-    pub destination: DestinationClock,
-    pub quantity: u64,
-}
-
-pub enum HeldSlot {
-    NoSlot,
-    OneSlot(Slot),
-}
-
-pub enum HeldToken {
-    NoToken,
-    OneToken(Token),
-}
-
 // A station's place for the slot of one peer, and for its token.
+use rules::held::HeldSlot;
+use rules::held::HeldToken;
+
 pub struct SlotCell {
     pub held: HeldSlot,
 }

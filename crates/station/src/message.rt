@@ -1,44 +1,18 @@
-// What one station shows another.
+// The message that one station has for another.
 ghost use mathlib.Core.Path.{_≡_};
-ghost use Rattle.station.specs.Steps.{noMessage, showAnswer, showOf};
-use crate::answers;
-use crate::clocks::DestinationClock;
-use crate::clocks::SourceClock;
-use crate::held::HeldSlot;
-use crate::held::HeldToken;
+ghost use Rattle.rules.specs.Message.{noMessage};
+ghost use Rattle.station.specs.Steps.{showAnswer, showOf};
 use crate::side::side_for;
 use crate::sound::station_is_sound;
 use crate::station::Station;
-
-pub struct Message {
-    pub from: usize,
-    pub to: usize,
-    pub value: u64,
-    pub source: SourceClock,
-    pub destination: DestinationClock,
-    pub slot: HeldSlot,
-    pub token: HeldToken,
-}
+use rules::answers;
+use rules::message::Message;
+use rules::message::no_message;
 
 // The numbered answer, and the message that a station has for another.
 pub struct Shown {
     pub answer: u8,
     pub message: Message,
-}
-
-// Every number 0 and nothing held.
-pub fn no_message() -> Message
-    ensures { λ r. ⌜ r ≡ noMessage ⌝ }
-{
-    Message {
-        from: 0,
-        to: 0,
-        value: 0,
-        source: SourceClock(0),
-        destination: DestinationClock(0),
-        slot: HeldSlot::NoSlot,
-        token: HeldToken::NoToken,
-    }
 }
 
 fn show_answer(s: Station, to: u64) -> u8

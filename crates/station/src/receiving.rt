@@ -1,24 +1,21 @@
 // A station receives a message by value.
 ghost use mathlib.Core.Path.{_≡_};
-ghost use Rattle.station.specs.Answers.{done};
-ghost use Rattle.station.specs.Side.{sideFor};
-ghost use Rattle.station.specs.Taking.{takeOf};
-ghost use Rattle.station.specs.Steps.{receiveAnswer, received, receiveOf};
-use crate::answers;
-use crate::message::Message;
+ghost use Rattle.rules.specs.Answers.{done};
+ghost use Rattle.station.specs.Steps.{meetAnswer, receiveOf};
 use crate::outcome::Outcome;
 use crate::outcome::refuse;
-use crate::rules::rule1_fill;
 use crate::side::put_side;
 use crate::side::side_for;
-use crate::sound::MOST_VALUE;
 use crate::sound::message_is_sound;
 use crate::sound::station_is_sound;
 use crate::station::Station;
-use crate::taking::take;
+use rules::answers;
+use rules::message::Message;
+use rules::taking::take;
 
-fn receive_answer(s: Station, m: Message) -> u8
-    ensures { λ r. ⌜ r ≡ receiveAnswer s m ⌝ }
+// What is tested before the rules see the message.
+fn meet_answer(s: Station, m: Message) -> u8
+    ensures { λ r. ⌜ r ≡ meetAnswer s m ⌝ }
 {
     if !station_is_sound(s) {
         return answers::NOT_SOUND;
@@ -32,20 +29,18 @@ fn receive_answer(s: Station, m: Message) -> u8
     if m.to != s.number {
         return answers::FOR_ANOTHER;
     }
-    let filled = rule1_fill(side_for(s, m.from), m);
-    let side = filled.side;
-    if MOST_VALUE < side.value {
-        return answers::VALUE_LIMIT;
-    }
     answers::DONE
 }
 
 // The five rules at the side for the sender.
 fn take_message(s: Station, m: Message) -> Outcome
-    requires { ⌜ receiveAnswer s m ≡ done ⌝ }
-    ensures { λ r. ⌜ r ≡ received s m (takeOf (sideFor s (m .from)) m) ⌝ }
+    requires { ⌜ meetAnswer s m ≡ done ⌝ }
+    ensures { λ r. ⌜ r ≡ receiveOf s m ⌝ }
 {
     let taken = take(side_for(s, m.from), m);
+    if taken.answer != answers::DONE {
+        return refuse(taken.answer, s);
+    }
     let report = taken.report;
     let side = taken.side;
     Outcome {
@@ -60,7 +55,7 @@ fn take_message(s: Station, m: Message) -> Outcome
 pub fn receive(s: Station, m: Message) -> Outcome
     ensures { λ r. ⌜ r ≡ receiveOf s m ⌝ }
 {
-    let answer = receive_answer(s, m);
+    let answer = meet_answer(s, m);
     if answer != answers::DONE {
         return refuse(answer, s);
     }

@@ -1,23 +1,12 @@
-// What of a station the five rules see when it takes a message: its value, its clocks, and what it holds for the sender.
+// The part of a station that the five rules see, taken out and put back.
 ghost use mathlib.Core.Path.{_≡_};
 ghost use Prim.Native.Nat.{_<_};
-ghost use Rattle.station.specs.Limits.{mostStations};
+ghost use Rattle.rules.specs.Limits.{mostStations};
 ghost use Rattle.station.specs.Side.{sideFor, putSide};
-use crate::clocks::DestinationClock;
-use crate::clocks::SourceClock;
-use crate::held::HeldSlot;
-use crate::held::HeldToken;
 use crate::held::SlotCell;
 use crate::held::TokenCell;
 use crate::station::Station;
-
-pub struct Side {
-    pub value: u64,
-    pub source: SourceClock,
-    pub destination: DestinationClock,
-    pub slot: HeldSlot,
-    pub token: HeldToken,
-}
+use rules::side::Side;
 
 // The side of a station that is turned to station k.
 pub(crate) fn side_for(s: Station, k: usize) -> Side

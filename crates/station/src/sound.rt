@@ -1,18 +1,16 @@
 // The tests of soundness, each proved equal to its definition.
 ghost use mathlib.Core.Path.{_≡_};
-ghost use Rattle.station.specs.Limits.{mostStations};
-ghost use Rattle.station.specs.Below.{allBelow};
+ghost use Rattle.rules.specs.Limits.{mostStations};
+ghost use Rattle.rules.specs.Below.{allBelow};
 ghost use Rattle.station.specs.Sound.{slotSound, tokenSound, holdsNothing, cellsSound, countSound, stationSound, messageSound};
-use crate::clocks::DestinationClock;
-use crate::clocks::SourceClock;
-use crate::held::HeldSlot;
-use crate::held::HeldToken;
-use crate::message::Message;
 use crate::station::Station;
-
-pub(crate) const MOST_VALUE: u64 = 16000000000;
-
-pub(crate) const MOST_INTAKE: u64 = 1000000000;
+use rules::clocks::DestinationClock;
+use rules::clocks::SourceClock;
+use rules::held::HeldSlot;
+use rules::held::HeldToken;
+use rules::limits::MOST_INTAKE;
+use rules::limits::MOST_VALUE;
+use rules::message::Message;
 
 pub(crate) fn slot_is_sound(held: HeldSlot, clock: DestinationClock) -> bool
     ensures { λ r. ⌜ r ≡ slotSound held clock ⌝ }

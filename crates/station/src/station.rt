@@ -1,8 +1,8 @@
 // A station by value.
-use crate::clocks::DestinationClock;
-use crate::clocks::SourceClock;
 use crate::held::SlotCell;
 use crate::held::TokenCell;
+use rules::clocks::DestinationClock;
+use rules::clocks::SourceClock;
 
 // Its own number and the count of stations, its value, its intake, its two clocks, and for every peer at most one slot
 // and at most one token.

@@ -1,25 +1,22 @@
 // The entry points of one station that need no message: fresh, add, draw.
 ghost use mathlib.Core.Path.{_≡_};
-ghost use Rattle.station.specs.Steps.{blank, freshAnswer, freshOf, amountSound, addAnswer, addOf, drawAnswer, drawOf};
-ghost use Rattle.station.specs.Outcome.{noReport};
-use crate::answers;
-use crate::clocks::DestinationClock;
-use crate::clocks::SourceClock;
-use crate::held::HeldSlot;
-use crate::held::HeldToken;
+ghost use Rattle.station.specs.Steps.{blank, freshAnswer, freshOf, stockOutcome, addOf, drawOf};
 use crate::held::SlotCell;
 use crate::held::TokenCell;
 use crate::outcome::Outcome;
-use crate::outcome::no_report;
 use crate::outcome::refuse;
-use crate::rules::smaller;
-use crate::sound::MOST_INTAKE;
-use crate::sound::MOST_VALUE;
 use crate::sound::count_is_sound;
 use crate::sound::station_is_sound;
 use crate::station::Station;
-
-const MOST_AMOUNT: u64 = 1000000000;
+use rules::answers;
+use rules::clocks::DestinationClock;
+use rules::clocks::SourceClock;
+use rules::held::HeldSlot;
+use rules::held::HeldToken;
+use rules::report::no_report;
+use rules::stock::Stock;
+use rules::stock::add_to;
+use rules::stock::draw_from;
 
 pub fn blank_station(number: usize, count: usize) -> Station
     ensures { λ r. ⌜ r ≡ blank number count ⌝ }
@@ -70,76 +67,37 @@ pub fn fresh(number: u64, count: u64) -> Outcome
     }
 }
 
-fn amount_is_sound(amount: u64) -> bool
-    ensures { λ r. ⌜ r ≡ amountSound amount ⌝ }
+// The outcome at a station whose stock is then that one.
+fn stock_outcome(s: Station, stock: Stock) -> Outcome
+    ensures { λ r. ⌜ r ≡ stockOutcome s stock ⌝ }
 {
-    (1 <= amount) & (amount <= MOST_AMOUNT)
-}
-
-fn add_answer(s: Station, amount: u64) -> u8
-    ensures { λ r. ⌜ r ≡ addAnswer s amount ⌝ }
-{
-    if !station_is_sound(s) {
-        return answers::NOT_SOUND;
+    let mut next = s;
+    next.value = stock.value;
+    next.intake = stock.intake;
+    Outcome {
+        answer: stock.answer,
+        result: stock.result,
+        report: no_report(),
+        station: next,
     }
-    if !amount_is_sound(amount) {
-        return answers::BAD_AMOUNT;
-    }
-    if MOST_INTAKE < s.intake + amount {
-        return answers::INTAKE_LIMIT;
-    }
-    if MOST_VALUE < s.value + amount {
-        return answers::VALUE_LIMIT;
-    }
-    answers::DONE
 }
 
 // Raises value and intake: refused by 1, 4, 5, 10.
 pub fn add(s: Station, amount: u64) -> Outcome
     ensures { λ r. ⌜ r ≡ addOf s amount ⌝ }
 {
-    let answer = add_answer(s, amount);
-    if answer != answers::DONE {
-        return refuse(answer, s);
-    }
-    let mut next = s;
-    next.value = s.value + amount;
-    next.intake = s.intake + amount;
-    Outcome {
-        answer,
-        result: next.value,
-        report: no_report(),
-        station: next,
-    }
-}
-
-fn draw_answer(s: Station, amount: u64) -> u8
-    ensures { λ r. ⌜ r ≡ drawAnswer s amount ⌝ }
-{
     if !station_is_sound(s) {
-        return answers::NOT_SOUND;
+        return refuse(answers::NOT_SOUND, s);
     }
-    if !amount_is_sound(amount) {
-        return answers::BAD_AMOUNT;
-    }
-    answers::DONE
+    stock_outcome(s, add_to(s.value, s.intake, amount))
 }
 
 // Takes the smaller of the value and the amount: refused by 1, 4.
 pub fn draw(s: Station, amount: u64) -> Outcome
     ensures { λ r. ⌜ r ≡ drawOf s amount ⌝ }
 {
-    let answer = draw_answer(s, amount);
-    if answer != answers::DONE {
-        return refuse(answer, s);
+    if !station_is_sound(s) {
+        return refuse(answers::NOT_SOUND, s);
     }
-    let taken = smaller(s.value, amount);
-    let mut next = s;
-    next.value = s.value - taken;
-    Outcome {
-        answer,
-        result: taken,
-        report: no_report(),
-        station: next,
-    }
+    stock_outcome(s, draw_from(s.value, s.intake, amount))
 }

@@ -9,10 +9,10 @@ use lib.ListN.{length, getD, set, length-set, getD-replicate}
 use lib.Seq.{getD-set-same, getD-set-other}
 use borrow.Author.Tests.{leb-true, ltb-true, le-leb, lt-leb, lt-ltb, eq-eqb, ltb-false}
 use Rattle.station.specs.declared.station.Station.{Station}
-use Rattle.station.specs.Limits.{mostStations}
+use Rattle.rules.specs.Limits.{mostStations}
 use Rattle.station.specs.Sound.{countSound, stationSound}
 use Rattle.station.specs.Steps.{blank, freshAnswer, freshOf as freshStation}
-use Rattle.station.proofs.Below.{both-hold}
+use Rattle.rules.proofs.Below.{both-hold}
 use Rattle.station.proofs.Keeps.{fresh-sound}
 use Rattle.table.specs.declared.pool.Place.{Place}
 use Rattle.table.specs.declared.pool.Waiting.the-variants.{Empty}

@@ -6,10 +6,10 @@ use native.Mathlib.Omega.{arith}
 use lib.Dec.{ltb}
 use borrow.Author.Tests.{ltb-true, lt-ltb, not-false}
 use Rattle.station.specs.declared.outcome.Outcome.{Outcome}
-use Rattle.station.specs.Outcome.{orElse}
-use Rattle.station.specs.Limits.{mostStations}
+use Rattle.rules.specs.Refusals.{orElse}
+use Rattle.rules.specs.Limits.{mostStations}
 use Rattle.station.specs.Steps.{addOf, drawOf, showOf, receiveOf}
-use Rattle.station.proofs.Answering.{passed}
+use Rattle.rules.proofs.Refusing.{passed}
 use Rattle.station.proofs.Keeps.{add-keeps, add-seat, draw-keeps, draw-seat}
 use Rattle.table.specs.declared.pool.Waiting.{Waiting}
 use Rattle.table.specs.declared.pool.Waiting.the-variants.{Empty, One}

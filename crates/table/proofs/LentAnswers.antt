@@ -6,7 +6,7 @@ use mathlib.Core.List.{List}
 use lib.Dec.{T as Holds, eqb, ltb, T-not, not-T, ltb→lt, lt→ltb, eqb→eq}
 use lib.ListN.{length}
 use native.Mathlib.Omega.{arith}
-use Rattle.station.specs.Outcome.{first}
+use Rattle.rules.specs.Refusals.{first}
 use Rattle.table.specs.Table.{placeIn, isEmpty, lowestEmpty}
 use Rattle.table.specs.Lent.{told, left, sendInAnswer, loseInAnswer}
 use Rattle.table.specs.declared.lent.Told.{Told}

@@ -51,7 +51,7 @@ use denote.Triple.Spec.{Back, tripleOf}
 use denote.Triple.Statement.{Contract, Triple}
 use denote.Triple.Table.{entered, cited, framed}
 use denote.Triple.Walked.{says}
-use Rattle.station.proofs.message.Message as Message
+use Rattle.rules.proofs.message.Message as Message
 use Rattle.table.specs.Table.{isEmpty, lowestEmpty}
 use Rattle.table.specs.Lent.{cleared, holding, told, left as remains, sendInAnswer, loseInAnswer}
 use Rattle.table.specs.declared.lent.Told.{Told}

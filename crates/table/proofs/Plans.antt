@@ -6,16 +6,17 @@ use native.Mathlib.Omega.{arith}
 use lib.Dec.{ltb}
 use borrow.Author.Tests.{ltb-true, lt-ltb, not-false}
 use Rattle.station.specs.declared.station.Station.{Station}
-use Rattle.station.specs.declared.message.Message.{Message}
+use Rattle.rules.specs.declared.message.Message.{Message}
 use Rattle.station.specs.declared.message.Shown.{Shown}
 use Rattle.station.specs.declared.outcome.Outcome.{Outcome}
-use Rattle.station.specs.Limits.{mostStations}
-use Rattle.station.specs.Outcome.{orElse}
+use Rattle.rules.specs.Limits.{mostStations}
+use Rattle.rules.specs.Refusals.{orElse}
 use Rattle.station.specs.Side.{sideFor}
-use Rattle.station.specs.Taking.{takeOf}
+use Rattle.rules.specs.Taking.{takeOf}
 use Rattle.station.specs.Steps.{addOf, drawOf, showOf, receiveAnswer, received as told, receiveOf}
 use Rattle.station.proofs.Parts.{message-parts}
-use Rattle.station.proofs.Answering.{passed, answer-told, received}
+use Rattle.rules.proofs.Refusing.{passed}
+use Rattle.station.proofs.Answering.{answer-told, received}
 use Rattle.table.specs.declared.pool.Waiting.{Waiting}
 use Rattle.table.specs.declared.pool.Waiting.the-variants.{Empty, One}
 use Rattle.table.specs.declared.planning.Plan.{Plan}

@@ -5,7 +5,7 @@ use mathlib.Core.Bool.{true, or-true}
 use native.Mathlib.Omega.{arith}
 use borrow.Author.Tests.{lt-ltb, eq-eqb}
 use Rattle.station.specs.declared.station.Station.{Station}
-use Rattle.station.specs.declared.message.Message.{Message}
+use Rattle.rules.specs.declared.message.Message.{Message}
 use Rattle.station.specs.Sound.{stationSound}
 use Rattle.station.specs.Steps.{messageFor, showing, showAnswer, showOf, receiveOf}
 use Rattle.station.proofs.Answering.{shown}
@@ -16,7 +16,7 @@ use Rattle.table.specs.declared.pool.Place.{Place}
 use Rattle.table.specs.declared.table.Table.{Table}
 use Rattle.table.specs.Table.{stationAt, putStation, putPlace}
 use Rattle.table.specs.Sound.{seatSound, placeSound}
-use Rattle.station.proofs.Stores.{stored}
+use Rattle.rules.proofs.Stores.{stored}
 use Rattle.table.proofs.Tables.{Seated, Waits, SoundTable, seated}
 
 -- in a sound table a station below the count is seated; and back: a seat, and a place with a message of the table, are sound

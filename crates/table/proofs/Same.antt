@@ -6,12 +6,13 @@ use native.Mathlib.Omega.{arith}
 use lib.ListN.{length}
 use lib.Seq.{getD-set-same, getD-set-other}
 use borrow.Author.Tests.{lt-ltb}
-use Rattle.station.specs.declared.message.Message.{Message}
+use Rattle.rules.specs.declared.message.Message.{Message}
 use Rattle.station.specs.declared.outcome.Outcome.{Outcome}
-use Rattle.station.specs.Limits.{mostStations}
-use Rattle.station.specs.Outcome.{noReport, answered}
+use Rattle.rules.specs.Limits.{mostStations}
+use Rattle.rules.specs.Report.{noReport}
+use Rattle.station.specs.Outcome.{answered}
 use Rattle.station.specs.Side.{sideFor}
-use Rattle.station.specs.Taking.{takeOf}
+use Rattle.rules.specs.Taking.{takeOf}
 use Rattle.station.specs.Steps.{told, putStock, messageFor, addAnswer, drawAnswer, showAnswer, receiveAnswer, received, addOf, drawOf, showOf, receiveOf}
 use Rattle.table.specs.declared.pool.Waiting.the-variants.{One}
 use Rattle.table.specs.declared.pool.Place.{Place}

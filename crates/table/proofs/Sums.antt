@@ -4,14 +4,14 @@ use mathlib.Core.Path.{_≡_, refl}
 use mathlib.Core.Bool.{Bool, true, false, cond}
 use native.Mathlib.Omega.{arith}
 use native.Mathlib.Numerals.{add-one}
-use Rattle.station.specs.declared.held.HeldSlot.{HeldSlot}
-use Rattle.station.specs.declared.held.HeldSlot.the-variants.{NoSlot, OneSlot}
-use Rattle.station.specs.declared.held.HeldToken.{HeldToken}
-use Rattle.station.specs.declared.held.HeldToken.the-variants.{NoToken, OneToken}
-use Rattle.station.specs.Limits.{mostValue}
+use Rattle.rules.specs.declared.held.HeldSlot.{HeldSlot}
+use Rattle.rules.specs.declared.held.HeldSlot.the-variants.{NoSlot, OneSlot}
+use Rattle.rules.specs.declared.held.HeldToken.{HeldToken}
+use Rattle.rules.specs.declared.held.HeldToken.the-variants.{NoToken, OneToken}
+use Rattle.rules.specs.Limits.{mostValue}
 use Rattle.station.specs.Held.{tokenFor}
-use Rattle.station.specs.Rules.{agree}
-use Rattle.station.specs.Taking.{tokenFits}
+use Rattle.rules.specs.Rules.{agree}
+use Rattle.rules.specs.Taking.{tokenFits}
 use Rattle.station.proofs.Parts.{SoundStation, station-parts, token-fits}
 use Rattle.table.specs.declared.table.Table.{Table}
 use Rattle.table.specs.Table.{stationAt}

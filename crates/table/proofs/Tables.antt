@@ -5,11 +5,11 @@ use mathlib.Core.Bool.{true, false, _&&_, and-false}
 use lib.Dec.{ltb, leb, eqb}
 use borrow.Author.Tests.{leb-true, ltb-true, eqb-true, lt-leb, le-leb}
 use Rattle.station.specs.declared.station.Station.{Station}
-use Rattle.station.specs.declared.message.Message.{Message}
-use Rattle.station.specs.Limits.{mostStations}
-use Rattle.station.specs.Below.{allBelow}
+use Rattle.rules.specs.declared.message.Message.{Message}
+use Rattle.rules.specs.Limits.{mostStations}
+use Rattle.rules.specs.Below.{allBelow}
 use Rattle.station.specs.Sound.{stationSound, messageSound}
-use Rattle.station.proofs.Below.{needed, all-at, all-from}
+use Rattle.rules.proofs.Below.{needed, all-at, all-from}
 use Rattle.table.specs.declared.pool.Waiting.the-variants.{One}
 use Rattle.table.specs.declared.table.Table.{Table}
 use Rattle.table.specs.Table.{mostPlaces, stationAt, waitingAt}

@@ -4,9 +4,9 @@ use mathlib.Core.Bool.{cond}
 use mathlib.Core.List.{List}
 use lib.ListN.{set, replicate}
 use Rattle.station.specs.declared.station.Station.{Station}
-use Rattle.station.specs.Answers.{done, notSound}
-use Rattle.station.specs.Limits.{mostStations}
-use Rattle.station.specs.Outcome.{noReport}
+use Rattle.rules.specs.Answers.{done, notSound}
+use Rattle.rules.specs.Limits.{mostStations}
+use Rattle.rules.specs.Report.{noReport}
 use Rattle.station.specs.Sound.{countSound}
 use Rattle.station.specs.Steps.{blank}
 use Rattle.table.specs.declared.pool.Waiting.the-variants.{Empty}

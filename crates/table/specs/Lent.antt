@@ -4,9 +4,9 @@ use mathlib.Core.Bool.{not}
 use mathlib.Core.List.{List}
 use lib.Dec.{eqb, ltb}
 use lib.ListN.{length, set}
-use Rattle.station.specs.Answers.{done, notSound, poolFull, noSuchPlace, emptyPlace}
-use Rattle.station.specs.Outcome.{first}
-use Rattle.station.specs.declared.message.Message.{Message}
+use Rattle.rules.specs.Answers.{done, notSound, poolFull, noSuchPlace, emptyPlace}
+use Rattle.rules.specs.Refusals.{first}
+use Rattle.rules.specs.declared.message.Message.{Message}
 use Rattle.table.specs.Table.{mostPlaces, placeIn, isEmpty, lowestEmpty}
 use Rattle.table.specs.declared.lent.Told.{Told}
 use Rattle.table.specs.declared.pool.Place.{Place}

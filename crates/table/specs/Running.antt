@@ -6,8 +6,8 @@ use mathlib.Core.List.{List, [], _∷_, _++_}
 use lib.Dec.{eqb}
 use lib.ListN.{length, getD, drop}
 use lib.Seq.{sets}
-use Rattle.station.specs.Answers.{done, notSound, badLine}
-use Rattle.station.specs.Outcome.{noReport, rulesOf}
+use Rattle.rules.specs.Answers.{done, notSound, badLine}
+use Rattle.rules.specs.Report.{noReport, rulesOf}
 use Rattle.table.specs.declared.running.Ran.{Ran}
 use Rattle.table.specs.declared.steps.Asked.{Asked}
 use Rattle.table.specs.declared.steps.Asked.the-variants.{NoStep, OneStep}

@@ -4,9 +4,9 @@ use Prim.Native.Nat.{ℕ}
 use mathlib.Core.Bool.{Bool, true, _&&_, _||_}
 use lib.Dec.{ltb, leb, eqb}
 use Rattle.station.specs.declared.station.Station.{Station}
-use Rattle.station.specs.declared.message.Message.{Message}
-use Rattle.station.specs.Limits.{mostStations}
-use Rattle.station.specs.Below.{allBelow}
+use Rattle.rules.specs.declared.message.Message.{Message}
+use Rattle.rules.specs.Limits.{mostStations}
+use Rattle.rules.specs.Below.{allBelow}
 use Rattle.station.specs.Sound.{countSound, stationSound, messageSound}
 use Rattle.table.specs.declared.pool.Waiting.{Waiting}
 use Rattle.table.specs.declared.pool.Waiting.the-variants.{Empty, One}

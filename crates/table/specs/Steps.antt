@@ -5,9 +5,10 @@ use lib.Dec.{ltb}
 use Rattle.station.specs.declared.station.Station.{Station}
 use Rattle.station.specs.declared.message.Shown.{Shown}
 use Rattle.station.specs.declared.outcome.Outcome.{Outcome}
-use Rattle.station.specs.Answers.{done, notSound, notBelowCount, poolFull, noSuchPlace, emptyPlace}
-use Rattle.station.specs.Limits.{mostStations}
-use Rattle.station.specs.Outcome.{noReport, first, orElse}
+use Rattle.rules.specs.Answers.{done, notSound, notBelowCount, poolFull, noSuchPlace, emptyPlace}
+use Rattle.rules.specs.Limits.{mostStations}
+use Rattle.rules.specs.Report.{noReport}
+use Rattle.rules.specs.Refusals.{first, orElse}
 use Rattle.station.specs.Steps.{blank, addOf, drawOf, showOf, receiveOf}
 use Rattle.table.specs.declared.pool.Waiting.{Waiting}
 use Rattle.table.specs.declared.pool.Waiting.the-variants.{Empty, One}

@@ -5,7 +5,7 @@ use mathlib.Core.List.{List, []}
 use lib.Dec.{ltb}
 use lib.ListN.{getD, set}
 use Rattle.station.specs.declared.station.Station.{Station}
-use Rattle.station.specs.Limits.{mostStations}
+use Rattle.rules.specs.Limits.{mostStations}
 use Rattle.table.specs.declared.pool.Waiting.{Waiting}
 use Rattle.table.specs.declared.pool.Waiting.the-variants.{Empty, One}
 use Rattle.table.specs.declared.pool.Place.{Place}

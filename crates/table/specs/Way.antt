@@ -2,13 +2,13 @@
 use Prim.Native.Nat.{ℕ}
 use mathlib.Core.Bool.{cond}
 use Rattle.handshake.specs.Sums.{sumBelow}
-use Rattle.station.specs.declared.held.HeldSlot.{HeldSlot}
-use Rattle.station.specs.declared.held.HeldSlot.the-variants.{NoSlot, OneSlot}
-use Rattle.station.specs.declared.held.HeldToken.{HeldToken}
-use Rattle.station.specs.declared.held.HeldToken.the-variants.{NoToken, OneToken}
-use Rattle.station.specs.Answers.{done, notSound}
+use Rattle.rules.specs.declared.held.HeldSlot.{HeldSlot}
+use Rattle.rules.specs.declared.held.HeldSlot.the-variants.{NoSlot, OneSlot}
+use Rattle.rules.specs.declared.held.HeldToken.{HeldToken}
+use Rattle.rules.specs.declared.held.HeldToken.the-variants.{NoToken, OneToken}
+use Rattle.rules.specs.Answers.{done, notSound}
 use Rattle.station.specs.Held.{slotFor, tokenFor}
-use Rattle.station.specs.Rules.{agree}
+use Rattle.rules.specs.Rules.{agree}
 use Rattle.table.specs.declared.table.Table.{Table}
 use Rattle.table.specs.declared.way.Summed.{Summed}
 use Rattle.table.specs.Table.{stationAt}

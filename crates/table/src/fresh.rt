@@ -1,14 +1,14 @@
 // A fresh table.
 ghost use mathlib.Core.Path.{_≡_};
 ghost use Prim.Native.Nat.{_≤_};
-ghost use Rattle.station.specs.Limits.{mostStations};
+ghost use Rattle.rules.specs.Limits.{mostStations};
 ghost use Rattle.table.specs.Fresh.{blankTable, freshOf, seatsTo};
 use crate::pool::Place;
 use crate::pool::Waiting;
 use crate::stepping::Stepped;
 use crate::table::Table;
-use station::answers;
-use station::outcome::no_report;
+use rules::answers;
+use rules::report::no_report;
 use station::sound::count_is_sound;
 use station::station::Station;
 use station::steps::blank_station;

@@ -4,8 +4,8 @@ ghost use Rattle.table.specs.Lent.{sendInTold, sendInPool, loseInTold, l
 use crate::pool::Place;
 use crate::pool::Waiting;
 use crate::pool::is_empty;
-use station::answers;
-use station::message::Message;
+use rules::answers;
+use rules::message::Message;
 
 // The numbered answer, and the place of a send that is done.
 pub struct Told {

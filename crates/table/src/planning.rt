@@ -1,7 +1,7 @@
 // What a step will do to a table: looked up without changing it, so that who holds the table can change just that.
 ghost use mathlib.Core.Path.{_≡_};
 ghost use Prim.Native.Nat.{_<_};
-ghost use Rattle.station.specs.Limits.{mostStations};
+ghost use Rattle.rules.specs.Limits.{mostStations};
 ghost use Rattle.table.specs.Table.{below, mostPlaces, receiverOf};
 ghost use Rattle.table.specs.Steps.{refusedPlan, stationPlan, placePlan, atStation, atLowest, deliverAt, loseAt, placeLookedAt, stationLookedAt, needsPlace, planAt, planOf};
 use crate::pool::Place;
@@ -10,11 +10,11 @@ use crate::pool::lowest_empty;
 use crate::sound::table_is_sound;
 use crate::steps::Step;
 use crate::table::Table;
-use station::answers;
+use rules::answers;
+use rules::report::Report;
+use rules::report::no_report;
 use station::message::Shown;
 use station::outcome::Outcome;
-use station::outcome::Report;
-use station::outcome::no_report;
 use station::station::Station;
 use station::steps::blank_station;
 

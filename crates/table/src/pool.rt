@@ -1,7 +1,7 @@
 // The pool: 64 places, each empty or holding one message.
 ghost use mathlib.Core.Path.{_≡_};
 ghost use Rattle.table.specs.Table.{isEmpty, lowestEmpty};
-use station::message::Message;
+use rules::message::Message;
 
 pub enum Waiting {
     Empty,

@@ -1,7 +1,7 @@
 // The test of a table's soundness, proved equal to its definition.
 ghost use mathlib.Core.Path.{_≡_};
-ghost use Rattle.station.specs.Limits.{mostStations};
-ghost use Rattle.station.specs.Below.{allBelow};
+ghost use Rattle.rules.specs.Limits.{mostStations};
+ghost use Rattle.rules.specs.Below.{allBelow};
 ghost use Rattle.table.specs.Table.{mostPlaces, placeIn, stationIn};
 ghost use Rattle.table.specs.Sound.{seatSound, placeSound, tableSound};
 use crate::pool::Place;

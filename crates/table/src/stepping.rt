@@ -6,7 +6,7 @@ use crate::planning::plan_for;
 use crate::pool::Place;
 use crate::steps::Step;
 use crate::table::Table;
-use station::outcome::Report;
+use rules::report::Report;
 
 // The numbered answer, the result, the report, and the table as it then is.
 pub struct Stepped {

@@ -2,15 +2,15 @@
 ghost use mathlib.Core.Path.{_≡_};
 ghost use mathlib.Core.Bool.{true};
 ghost use Prim.Native.Nat.{_<_, _≤_, _*_};
-ghost use Rattle.station.specs.Limits.{mostValue, mostStations};
+ghost use Rattle.rules.specs.Limits.{mostValue, mostStations};
 ghost use Rattle.table.specs.Sound.{tableSound};
 ghost use Rattle.table.specs.Way.{travels, wayFrom, onTheWay, atStations, asked};
 use crate::sound::table_is_sound;
 use crate::table::Table;
-use station::answers;
-use station::held::HeldSlot;
-use station::held::HeldToken;
-use station::rules::clocks_agree;
+use rules::answers;
+use rules::held::HeldSlot;
+use rules::held::HeldToken;
+use rules::rules::clocks_agree;
 
 // The numbered answer and the sum.
 pub struct Summed {

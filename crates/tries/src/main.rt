@@ -1,12 +1,12 @@
 // Input at the edges, through the compiled entry points. Each line is the words, the answer and the result.
 use libc::STDOUT_FILENO;
-use station::clocks::DestinationClock;
-use station::clocks::SourceClock;
-use station::held::HeldSlot;
-use station::held::HeldToken;
-use station::held::Slot;
-use station::held::Token;
-use station::message::Message;
+use rules::clocks::DestinationClock;
+use rules::clocks::SourceClock;
+use rules::held::HeldSlot;
+use rules::held::HeldToken;
+use rules::held::Slot;
+use rules::held::Token;
+use rules::message::Message;
 use station::station::Station;
 use table::pool::Place;
 use table::pool::Waiting;

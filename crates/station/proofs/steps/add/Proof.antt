@@ -1,62 +1,41 @@
 use mathlib.Core.Path.{sym, _∙_}
-use native.Mathlib.Omega.{arith}
-use Prim.Native.Nat.{_+_}
-use Rattle.station.specs.Outcome.{noReport}
-use Rattle.station.specs.Steps.{addOf, addAnswer, told, putStock}
-use Rattle.station.proofs.Answering.{when-done, when-refused, added}
+use borrow.Author.Tests.{not-true, not-false}
+use Rattle.station.proofs.ByRules.{add-by-stock, unsound-add}
 use borrow.Author.Needs.{needs}
 use Rattle.station.proofs.steps.add.Statement.{statement}
 use Rattle.station.proofs.steps.add.Tie as tie
 
-add-answer-requires : tie.Need-add-answer-requires
-add-answer-requires c κs = search needs
+station-is-sound-requires : tie.Need-station-is-sound-requires
+station-is-sound-requires c κs = search needs
 
 refuse-requires : tie.Need-refuse-requires
 refuse-requires c κs = search needs
 
 returns : tie.Need-returns
-unfolding addOf
 returns c =
     let a = c .before .before .before .args in
-    let n = c .before .before .add-answer in
-    let s = a .s in
-    c .refuse .ensures
-    ∙ rw (n .ensures)
-    (when-refused (addAnswer s (a .amount)) s (told (s .value + a .amount) noReport (putStock s (s .value + a .amount) (s .intake + a .amount)))
-    (λ e. c .before .if1 .taken (n .ensures ∙ e)))
+    c .refuse .ensures ∙ unsound-add (a .s) (a .amount) (sym (c .before .before .station-is-sound .ensures) ∙ not-true _ (c .before .if1 .taken))
 
-add-next : tie.Need-add-next
-add-next c =
-    let a = c .before .before .before .args in
-    let room = added (a .s) (a .amount) (sym (c .before .before .add-answer .ensures) ∙ c .before .if1 .left) in
-    omega (arith, room .value)
+add-to-requires : tie.Need-add-to-requires
+add-to-requires c κs = search needs
 
-add-next-2 : tie.Need-add-next-2
-add-next-2 c =
-    let a = c .before .before .before .before .args in
-    let room = added (a .s) (a .amount) (sym (c .before .before .before .add-answer .ensures) ∙ c .before .before .if1 .left) in
-    omega (arith, room .intake)
-
-no-report-requires : tie.Need-no-report-requires
-no-report-requires c κs = search needs
+stock-outcome-requires : tie.Need-stock-outcome-requires
+stock-outcome-requires c κs = search needs
 
 returns-2 : tie.Need-returns-2
-unfolding addOf
 returns-2 c =
-    let a = c .before .before .before .before .before .args in
-    let s = a .s in
-    rw (c .before .before .before .if1 .left, c .no-report .ensures)
-    (when-done s (told (s .value + a .amount) noReport (putStock s (s .value + a .amount) (s .intake + a .amount)))
-    (sym (c .before .before .before .before .add-answer .ensures) ∙ c .before .before .before .if1 .left))
+    let a = c .before .before .before .before .args in
+    c .stock-outcome .ensures
+    ∙ rw (c .before .add-to .ensures)
+    (add-by-stock (a .s) (a .amount) (sym (c .before .before .before .station-is-sound .ensures) ∙ not-false _ (c .before .before .if1 .left)))
 
 pub add-spec : {M : Type 1} → statement M
 add-spec =
     tie.close
     (tie.spec
-    add-answer-requires
+    station-is-sound-requires
     refuse-requires
     returns
-    add-next
-    add-next-2
-    no-report-requires
+    add-to-requires
+    stock-outcome-requires
     returns-2)

@@ -1,5 +1,5 @@
 use mathlib.Core.Path.{sym, _∙_}
-use Rattle.station.specs.Outcome.{noReport}
+use Rattle.rules.specs.Report.{noReport}
 use Rattle.station.specs.Steps.{freshOf, freshAnswer, blank, told}
 use Rattle.station.proofs.Answering.{when-done, when-refused}
 use borrow.Author.Needs.{needs}

@@ -25,9 +25,9 @@ use denote.Ref.{now}
 use denote.Slice.{sliceVal, heres, codedHoleys, slice-vals, mut-slice-tells}
 use denote.Steps.{only}
 use denote.Struct.Laws as LL
-use Rattle.station.specs.declared.message.Message.{Message}
-use Rattle.station.proofs.message.Message as X
-use Rattle.station.proofs.message.Message.Laws as X′
+use Rattle.rules.specs.declared.message.Message.{Message}
+use Rattle.rules.proofs.message.Message as X
+use Rattle.rules.proofs.message.Message.Laws as X′
 use Rattle.table.specs.Table.{placeIn, isEmpty, firstFrom, lowestEmpty}
 use Rattle.table.specs.Lent.{holding, sendInAnswer}
 use Rattle.table.specs.declared.pool.Place.{Place}

@@ -2,8 +2,8 @@
 use mathlib.Core.Path.{refl}
 use contract.Running.{givenOf}
 use denote.Struct.Laws as LL
-use Rattle.station.proofs.message.Message as X
-use Rattle.station.proofs.message.Message.Laws as X′
+use Rattle.rules.proofs.message.Message as X
+use Rattle.rules.proofs.message.Message.Laws as X′
 use Rattle.table.proofs.LentPool.{sending}
 use Rattle.table.proofs.LentBridge.{bridged}
 use Rattle.table.proofs.lent.send_in.Symbol as step-def

@@ -1,7 +1,7 @@
 use mathlib.Core.Path.{_∙_}
 use borrow.Author.Tests.{lt-ltb, le-ltb}
 use Rattle.table.specs.declared.pool.Waiting.the-variants.{One}
-use Rattle.station.specs.Answers.{poolFull}
+use Rattle.rules.specs.Answers.{poolFull}
 use Rattle.table.specs.Steps.{placePlan}
 use Rattle.table.proofs.Plans.{refused-first, asked-next}
 use borrow.Author.Needs.{needs}

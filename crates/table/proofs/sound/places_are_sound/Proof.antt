@@ -3,10 +3,10 @@ use native.Mathlib.Omega.{arith}
 use borrow.Author.Needs.{needs}
 use Prim.Native.Nat.{ℕ, _≤_, _-_}
 use mathlib.Core.Bool.{Bool}
-use Rattle.station.specs.Below.{allBelow}
+use Rattle.rules.specs.Below.{allBelow}
 use mathlib.Core.List.{List}
 use Rattle.table.specs.declared.pool.Place.{Place}
-use Rattle.station.proofs.Below.{all-none, all-more}
+use Rattle.rules.proofs.Below.{all-none, all-more}
 use Rattle.table.specs.Table.{placeIn}
 use Rattle.table.specs.Sound.{placeSound}
 use Rattle.table.proofs.sound.places_are_sound.Statement.{statement}

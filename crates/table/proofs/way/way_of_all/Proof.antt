@@ -2,7 +2,7 @@ use mathlib.Core.Path.{_≡_, ap, sym, _∙_}
 use native.Mathlib.Omega.{arith}
 use borrow.Author.Needs.{needs}
 use Prim.Native.Nat.{_≤_, _-_, _*_}
-use Rattle.station.specs.Limits.{mostStations, mostValue}
+use Rattle.rules.specs.Limits.{mostStations, mostValue}
 use Rattle.handshake.specs.Sums.{sumBelow}
 use Rattle.table.specs.Way.{wayFrom}
 use Rattle.table.proofs.Tables.{table-parts}

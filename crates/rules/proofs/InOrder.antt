@@ -1,0 +1,29 @@
+-- The five rules one after the other. Assumes nothing.
+use mathlib.Core.Path.{_≡_, refl}
+use mathlib.Core.Bool.{Bool, true, false, cond}
+use lib.Dec.{ltb}
+use Rattle.rules.specs.declared.held.HeldSlot.{HeldSlot}
+use Rattle.rules.specs.declared.held.HeldSlot.the-variants.{NoSlot, OneSlot}
+use Rattle.rules.specs.declared.message.Message.{Message}
+use Rattle.rules.specs.declared.side.Side.{Side}
+use Rattle.rules.specs.declared.rules.Ruled.{Ruled}
+use Rattle.rules.specs.Rules.{fill, dropSlot, dropSlotBy, openSlot, dropToken, makeToken}
+use Rattle.rules.specs.Taking.{reported, takeOf}
+
+-- what holds of both ways of a choice, each under its test
+pub chosen : {A : Type 0} (P : A → Type 0) (t : Bool) (x y : A) → (t ≡ true → P x) → (t ≡ false → P y) → P (cond t x y)
+chosen P true x y f g = f refl
+chosen P false x y f g = g refl
+
+drop-slot-value-by : (x : Side) (m : Message) (h : HeldSlot) → dropSlotBy x m h .side .value ≡ x .value
+drop-slot-value-by x m NoSlot = refl
+drop-slot-value-by x m (OneSlot l) = chosen (λ (r : Ruled). r .side .value ≡ x .value) (ltb (l .source .0) (m .source .0)) _ _ (λ e. refl) (λ e. refl)
+
+-- rule 2 leaves the value
+pub drop-slot-value : (x : Side) (m : Message) → dropSlot x m .side .value ≡ x .value
+drop-slot-value x m = drop-slot-value-by x m (x .slot)
+
+pub taken : (x : Side) (m : Message) (one two three four five : Ruled) → one ≡ fill x m → two ≡ dropSlot (one .side) m → three ≡ openSlot (two .side) m
+    → four ≡ dropToken (three .side) m → five ≡ makeToken (four .side) m → reported one two three four five ≡ takeOf x m
+unfolding takeOf
+taken x m one two three four five e1 e2 e3 e4 e5 = cc

@@ -1,0 +1,6 @@
+pub mod Below
+pub mod Stores
+pub mod Signed
+pub mod Ruling
+pub mod InOrder
+pub mod Refusing

@@ -1,0 +1,96 @@
+-- Answers looked for in order. Assumes nothing.
+use Prim.Native.Nat.{ℕ, zero, suc, _+_, _≤_}
+use mathlib.Core.Path.{_≡_, refl, sym}
+use mathlib.Core.Bool.{Bool, true, false, cond, not}
+use mathlib.Core.List.{List, [], _∷_, _++_}
+use native.Mathlib.Omega.{arith}
+use lib.Dec.{ltb, leb}
+use borrow.Author.Tests.{leb-true, ltb-false, not-false}
+use Rattle.rules.specs.declared.held.HeldToken.{HeldToken}
+use Rattle.rules.specs.declared.held.HeldToken.the-variants.{NoToken, OneToken}
+use Rattle.rules.specs.declared.message.Message.{Message}
+use Rattle.rules.specs.declared.side.Side.{Side}
+use Rattle.rules.specs.declared.stock.Stock.{Stock}
+use Rattle.rules.specs.declared.taking.Taken.{Taken}
+use Rattle.rules.specs.Limits.{mostAmount, mostIntake, mostValue}
+use Rattle.rules.specs.Report.{noReport}
+use Rattle.rules.specs.Refusals.{Refusal, first, answerOf}
+use Rattle.rules.specs.Rules.{fill}
+use Rattle.rules.specs.Taking.{tokenSmall, messageSmall, tokenFits, takeOf, takeAnswer, takenBy, takenOf, Takes}
+use Rattle.rules.specs.Stock.{stockSound, amountSound, addToAnswer, stocked}
+use Rattle.rules.proofs.Below.{both-hold}
+
+-- an answer of 0 has passed its first test
+pub passed : (t : Bool) (n : ℕ) {later : ℕ} → first t (suc n) later ≡ 0 → (t ≡ false) × (later ≡ 0)
+passed false n e = (refl, e)
+passed true n e = absurd (omega arith)
+
+-- what is refused by the first of some conditions is refused by those with more after them
+refused-before : (t : Bool) (n : ℕ) {a b : ℕ} → ((b ≡ 0 → ⊥) → a ≡ b) → (cond t n b ≡ 0 → ⊥) → cond t n a ≡ cond t n b
+refused-before true n same f = refl
+refused-before false n same f = same f
+
+pub answer-before : (xs ys : List Refusal) → (answerOf xs ≡ 0 → ⊥) → answerOf (xs ++ ys) ≡ answerOf xs
+answer-before [] ys f = absurd (f refl)
+answer-before (r ∷ rs) ys f = refused-before (r .condition) (r .number) (answer-before rs ys) f
+
+pub amount-small : (amount : ℕ) → amountSound amount ≡ true → amount ≤ mostAmount
+amount-small amount e = leb-true _ _ (both-hold (leb 1 amount) _ e .1)
+
+pub stock-done : {n : ℕ} (value intake : ℕ) (d : Stock) → n ≡ 0 → d ≡ stocked n value intake d
+stock-done value intake d e = rw e
+
+pub stock-refused : (n value intake : ℕ) (d : Stock) → (n ≡ 0 → ⊥) → record { answer = n; result = 0; value = value; intake = intake } ≡ stocked n value intake d
+stock-refused zero value intake d f = absurd (f refl)
+stock-refused (suc n) value intake d f = refl
+
+pub taken-done : {n : ℕ} (x : Side) (t : Taken) → n ≡ 0 → t ≡ takenBy n x t
+taken-done x t e = rw e
+
+pub taken-refused : (n : ℕ) (x : Side) (t : Taken) → (n ≡ 0 → ⊥) → record { answer = n; result = 0; report = noReport; side = x } ≡ takenBy n x t
+taken-refused zero x t f = absurd (f refl)
+taken-refused (suc n) x t f = refl
+
+taken-answer : (n : ℕ) (x : Side) (t : Taken) → t .answer ≡ 0 → takenBy n x t .answer ≡ n
+taken-answer zero x t e = e
+taken-answer (suc n) x t e = refl
+
+-- what was taken tells the answer that was found
+pub take-tells : (x : Side) (m : Message) → takenOf x m .answer ≡ takeAnswer x m
+unfolding takenOf takeOf
+take-tells x m = taken-answer (takeAnswer x m) x (takeOf x m) refl
+
+pub take-done : (x : Side) (m : Message) → takeAnswer x m ≡ 0 → takenOf x m ≡ takeOf x m
+unfolding takenOf
+take-done x m e = sym (taken-done x (takeOf x m) e)
+
+pub small-fits : (h : HeldToken) → tokenSmall h ≡ true → tokenFits h
+small-fits NoToken e = tt
+small-fits (OneToken t) e = leb-true _ _ e
+
+-- the rules may take what is not refused
+pub takes : (x : Side) (m : Message) → takeAnswer x m ≡ 0 → Takes x m
+takes x m e =
+    let one = passed (ltb mostValue (x .value)) 0 e in
+    let two = passed (not (messageSmall m)) 8 (one .1) in
+    let three = passed (ltb mostValue (fill x m .side .value)) 9 (two .1) in
+    let small = both-hold (leb (m .value) mostValue) _ (not-false (messageSmall m) (two .0)) in
+    record {
+      value = ltb-false _ _ (one .0);
+      shown = leb-true _ _ (small .0);
+      token = small-fits (m .token) (small .1);
+      room = ltb-false _ _ (three .0);
+    }
+
+-- what an add that is done has room for
+pub record Added (v i amount : ℕ) : Type 0 where
+  pub value : v + amount ≤ mostValue
+  pub intake : i + amount ≤ mostIntake
+
+pub added : (value intake amount : ℕ) → addToAnswer value intake amount ≡ 0 → Added value intake amount
+added value intake amount e =
+    let one = passed (not (stockSound value intake)) 0 e in
+    let two = passed (not (amountSound amount)) 3 (one .1) in
+    let three = passed (ltb mostIntake (intake + amount)) 4 (two .1) in
+    let four = passed (ltb mostValue (value + amount)) 9 (three .1) in
+    record { value = ltb-false _ _ (four .0); intake = ltb-false _ _ (three .0) }

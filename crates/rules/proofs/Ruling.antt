@@ -1,0 +1,83 @@
+-- What each rule comes to, by what is held and shown and by its test. Assumes nothing.
+use Prim.Native.Nat.{ℕ, _+_, min}
+use mathlib.Core.Path.{_≡_}
+use mathlib.Core.Bool.{Bool, true, false, _&&_}
+use lib.Dec.{eqb, ltb, leb}
+use Rattle.rules.specs.declared.held.Slot.{Slot}
+use Rattle.rules.specs.declared.held.Token.{Token}
+use Rattle.rules.specs.declared.held.HeldSlot.{HeldSlot}
+use Rattle.rules.specs.declared.held.HeldSlot.the-variants.{NoSlot, OneSlot}
+use Rattle.rules.specs.declared.held.HeldToken.{HeldToken}
+use Rattle.rules.specs.declared.held.HeldToken.the-variants.{NoToken, OneToken}
+use Rattle.rules.specs.declared.message.Message.{Message}
+use Rattle.rules.specs.declared.side.Side.{Side}
+use Rattle.rules.specs.Limits.{lastClock}
+use Rattle.rules.specs.Clocks.{destinationNext}
+use Rattle.rules.specs.Side.{putValue, putDestination, putSlot, putToken}
+use Rattle.rules.specs.Rules.{acts, rests, agree, fillBy, dropSlotBy, openSlotBy, dropTokenBy, makeTokenBy, give}
+
+-- what is held or shown is a variable of its own, so that putting its case for it leaves the side alone
+module _ (x : Side) where
+  pub fill-no-token : {g : HeldToken} (h : HeldSlot) → g ≡ NoToken → rests x ≡ fillBy x g h
+  fill-no-token h eg = rw eg
+
+  pub fill-no-slot : {g : HeldToken} {h : HeldSlot} {t : Token} → g ≡ OneToken t → h ≡ NoSlot → rests x ≡ fillBy x g h
+  fill-no-slot eg eh = rw (eg, eh)
+
+  pub fill-other : {g : HeldToken} {h : HeldSlot} {t : Token} {l : Slot} → g ≡ OneToken t → h ≡ OneSlot l → agree t l ≡ false → rests x ≡ fillBy x g h
+  fill-other eg eh e = rw (eg, eh, e)
+
+  pub fill-acts : {g : HeldToken} {h : HeldSlot} {t : Token} {l : Slot} → g ≡ OneToken t → h ≡ OneSlot l → agree t l ≡ true
+      → acts (t .quantity) (putSlot (putValue x (x .value + t .quantity)) NoSlot) ≡ fillBy x g h
+  fill-acts eg eh e = rw (eg, eh, e)
+
+  pub make-no-slot : {h : HeldSlot} → h ≡ NoSlot → rests x ≡ makeTokenBy x h
+  make-no-slot eh = rw eh
+
+  pub make-other : {h : HeldSlot} {l : Slot} → h ≡ OneSlot l → (eqb (l .source .0) (x .source .0) && ltb (x .source .0) lastClock) ≡ false
+      → rests x ≡ makeTokenBy x h
+  make-other eh e = rw (eh, e)
+
+  pub make-acts : {h : HeldSlot} {l : Slot} → h ≡ OneSlot l → (eqb (l .source .0) (x .source .0) && ltb (x .source .0) lastClock) ≡ true
+      → acts (min (x .value) (l .quantity)) (give x l (min (x .value) (l .quantity))) ≡ makeTokenBy x h
+  make-acts eh e = rw (eh, e)
+
+module _ (x : Side) (m : Message) where
+  pub drop-no-slot : {h : HeldSlot} → h ≡ NoSlot → rests x ≡ dropSlotBy x m h
+  drop-no-slot eh = rw eh
+
+  pub drop-other-slot : {h : HeldSlot} {l : Slot} → h ≡ OneSlot l → ltb (l .source .0) (m .source .0) ≡ false → rests x ≡ dropSlotBy x m h
+  drop-other-slot eh e = rw (eh, e)
+
+  pub drop-slot-acts : {h : HeldSlot} {l : Slot} → h ≡ OneSlot l → ltb (l .source .0) (m .source .0) ≡ true → acts 0 (putSlot x NoSlot) ≡ dropSlotBy x m h
+  drop-slot-acts eh e = rw (eh, e)
+
+  pub open-one-slot : (q : ℕ) {h : HeldSlot} {l : Slot} → h ≡ OneSlot l → rests x ≡ openSlotBy x m q h
+  open-one-slot q eh = rw eh
+
+  pub open-other : (q : ℕ) {h : HeldSlot} → h ≡ NoSlot → (leb 1 q && ltb (x .destination .0) lastClock) ≡ false → rests x ≡ openSlotBy x m q h
+  open-other q eh e = rw (eh, e)
+
+  pub open-acts : (q : ℕ) {h : HeldSlot} → h ≡ NoSlot → (leb 1 q && ltb (x .destination .0) lastClock) ≡ true
+      → acts q
+      (putDestination (putSlot x (OneSlot (record { source = m .source; destination = x .destination; quantity = q }))) (destinationNext (x .destination)))
+      ≡ openSlotBy x m q h
+  open-acts q eh e = rw (eh, e)
+
+  pub drop-no-token : {g : HeldToken} (h : HeldSlot) → g ≡ NoToken → rests x ≡ dropTokenBy x m g h
+  drop-no-token h eg = rw eg
+
+  pub drop-slot-shown : {g : HeldToken} {h : HeldSlot} {t : Token} {l : Slot} → g ≡ OneToken t → h ≡ OneSlot l → rests x ≡ dropTokenBy x m g h
+  drop-slot-shown eg eh = rw (eg, eh)
+
+  pub drop-other-token : {g : HeldToken} {h : HeldSlot} {t : Token} → g ≡ OneToken t → h ≡ NoSlot → ltb (t .destination .0) (m .destination .0) ≡ false
+      → rests x ≡ dropTokenBy x m g h
+  drop-other-token eg eh e = rw (eg, eh, e)
+
+  pub drop-token-acts : {g : HeldToken} {h : HeldSlot} {t : Token} → g ≡ OneToken t → h ≡ NoSlot → ltb (t .destination .0) (m .destination .0) ≡ true
+      → acts 0 (putToken x NoToken) ≡ dropTokenBy x m g h
+  drop-token-acts eg eh e = rw (eg, eh, e)
+
+-- two tests joined, each known by what a call ensures
+pub both-tests : {a b c d : Bool} {t : Bool} → c ≡ a → d ≡ b → (c && d) ≡ t → (a && b) ≡ t
+both-tests ca db e = cc

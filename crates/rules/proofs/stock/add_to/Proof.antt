@@ -1,0 +1,39 @@
+use mathlib.Core.Path.{sym, _∙_}
+use native.Mathlib.Omega.{arith}
+use Rattle.rules.specs.Stock.{addToAnswer, addDone, addedTo}
+use Rattle.rules.proofs.Refusing.{stock-done, stock-refused, Added, added}
+use borrow.Author.Needs.{needs}
+use Rattle.rules.proofs.stock.add_to.Statement.{statement}
+use Rattle.rules.proofs.stock.add_to.Tie as tie
+
+add-to-answer-requires : tie.Need-add-to-answer-requires
+add-to-answer-requires c κs = search needs
+
+returns : tie.Need-returns
+unfolding addedTo
+returns c =
+    let a = c .before .before .args in
+    let n = c .before .add-to-answer in
+    rw (n .ensures) (stock-refused (addToAnswer (a .value) (a .intake) (a .amount)) (a .value) (a .intake) (addDone (a .value) (a .intake) (a .amount))
+    (λ e. c .if1 .taken (n .ensures ∙ e)))
+
+room : (c : tie.Else1) → let a = c .before .before .args in Added (a .value) (a .intake) (a .amount)
+room c = let a = c .before .before .args in added (a .value) (a .intake) (a .amount) (sym (c .before .add-to-answer .ensures) ∙ c .if1 .left)
+
+add-t6 : tie.Need-add-t6
+add-t6 c = omega (arith, room c .value)
+
+add-t7 : tie.Need-add-t7
+add-t7 c = omega (arith, room c .value)
+
+add-t8 : tie.Need-add-t8
+add-t8 c = omega (arith, room c .intake)
+
+returns-2 : tie.Need-returns-2
+unfolding addedTo
+returns-2 c =
+    let a = c .before .before .args in
+    rw (c .if1 .left) (stock-done (a .value) (a .intake) (addDone (a .value) (a .intake) (a .amount)) (sym (c .before .add-to-answer .ensures) ∙ c .if1 .left))
+
+pub add-to-spec : {M : Type 1} → statement M
+add-to-spec = tie.close (tie.spec add-to-answer-requires returns add-t6 add-t7 add-t8 returns-2)

@@ -1,0 +1,204 @@
+// The five rules of receiving, in order, on the side of a station that is turned to the sender.
+ghost use mathlib.Core.Path.{_≡_};
+ghost use Prim.Native.Nat.{_+_, _≤_, _<_, min};
+ghost use Rattle.rules.specs.Limits.{mostValue};
+ghost use Rattle.rules.specs.Rules.{acts, rests, agree, fill, dropSlot, openSlot, dropToken, makeToken};
+ghost use Rattle.rules.specs.Taking.{tokenFits};
+use crate::half::half_above;
+use crate::held::HeldSlot;
+use crate::held::HeldToken;
+use crate::held::Slot;
+use crate::held::Token;
+use crate::message::Message;
+use crate::side::Side;
+
+// What one rule did: whether it acted, its quantity, and the side that it left.
+pub struct Ruled {
+    pub acted: bool,
+    pub quantity: u64,
+    pub side: Side,
+}
+
+fn acts_with(quantity: u64, x: Side) -> Ruled
+    ensures { λ r. ⌜ r ≡ acts quantity x ⌝ }
+{
+    Ruled {
+        acted: true,
+        quantity,
+        side: x,
+    }
+}
+
+fn rests_at(x: Side) -> Ruled
+    ensures { λ r. ⌜ r ≡ rests x ⌝ }
+{
+    Ruled {
+        acted: false,
+        quantity: 0,
+        side: x,
+    }
+}
+
+// Both clocks, each with its own kind.
+pub fn clocks_agree(t: Token, l: Slot) -> bool
+    ensures { λ r. ⌜ r ≡ agree t l ⌝ }
+{
+    let made = t.source;
+    let asked = l.source;
+    let sent = t.destination;
+    let opened = l.destination;
+    made.equals(asked) & sent.equals(opened)
+}
+
+pub(crate) fn rule1_fill(x: Side, m: Message) -> Ruled
+    requires { ⌜ (x .value ≤ mostValue) × tokenFits (m .token) ⌝ }
+    ensures { λ r. ⌜ r ≡ fill x m ⌝ }
+{
+    let shown = m.token;
+    let held = x.slot;
+    let HeldToken::OneToken(token) = shown else {
+        return rests_at(x);
+    };
+    let HeldSlot::OneSlot(slot) = held else {
+        return rests_at(x);
+    };
+    if !clocks_agree(token, slot) {
+        return rests_at(x);
+    }
+    let source = x.source;
+    let destination = x.destination;
+    let kept = x.token;
+    let filled = Side {
+        value: x.value + token.quantity,
+        source,
+        destination,
+        slot: HeldSlot::NoSlot,
+        token: kept,
+    };
+    acts_with(token.quantity, filled)
+}
+
+pub(crate) fn rule2_drop_slot(x: Side, m: Message) -> Ruled
+    ensures { λ r. ⌜ r ≡ dropSlot x m ⌝ }
+    ensures { λ r. ⌜ r .side .value ≡ x .value ⌝ }
+{
+    let held = x.slot;
+    let HeldSlot::OneSlot(slot) = held else {
+        return rests_at(x);
+    };
+    let theirs = m.source;
+    let asked = slot.source;
+    if !theirs.is_above(asked) {
+        return rests_at(x);
+    }
+    let source = x.source;
+    let destination = x.destination;
+    let kept = x.token;
+    let dropped = Side {
+        value: x.value,
+        source,
+        destination,
+        slot: HeldSlot::NoSlot,
+        token: kept,
+    };
+    acts_with(0, dropped)
+}
+
+pub(crate) fn rule3_open_slot(x: Side, m: Message) -> Ruled
+    requires { ⌜ (x .value ≤ mostValue) × (m .value ≤ mostValue) ⌝ }
+    ensures { λ r. ⌜ r ≡ openSlot x m ⌝ }
+{
+    let held = x.slot;
+    let HeldSlot::NoSlot = held else {
+        return rests_at(x);
+    };
+    let h = half_above(m.value, x.value);
+    let destination = x.destination;
+    if !((1 <= h) & destination.before_end()) {
+        return rests_at(x);
+    }
+    let source = x.source;
+    let kept = x.token;
+    let theirs = m.source;
+    let slot = Slot {
+        source: theirs,
+        destination,
+        quantity: h,
+    };
+    let next = destination.next();
+    let opened = Side {
+        value: x.value,
+        source,
+        destination: next,
+        slot: HeldSlot::OneSlot(slot),
+        token: kept,
+    };
+    acts_with(h, opened)
+}
+
+pub(crate) fn rule4_drop_token(x: Side, m: Message) -> Ruled
+    ensures { λ r. ⌜ r ≡ dropToken x m ⌝ }
+{
+    let held = x.token;
+    let open = m.slot;
+    let HeldToken::OneToken(token) = held else {
+        return rests_at(x);
+    };
+    let HeldSlot::NoSlot = open else {
+        return rests_at(x);
+    };
+    let theirs = m.destination;
+    let asked = token.destination;
+    if !theirs.is_above(asked) {
+        return rests_at(x);
+    }
+    let source = x.source;
+    let destination = x.destination;
+    let kept = x.slot;
+    let dropped = Side {
+        value: x.value,
+        source,
+        destination,
+        slot: kept,
+        token: HeldToken::NoToken,
+    };
+    acts_with(0, dropped)
+}
+
+pub(crate) fn smaller(a: u64, b: u64) -> u64
+    ensures { λ r. ⌜ r ≡ min a b ⌝ }
+{
+    if a < b { a } else { b }
+}
+
+pub(crate) fn rule5_make_token(x: Side, m: Message) -> Ruled
+    ensures { λ r. ⌜ r ≡ makeToken x m ⌝ }
+{
+    let shown = m.slot;
+    let HeldSlot::OneSlot(slot) = shown else {
+        return rests_at(x);
+    };
+    let asked = slot.source;
+    let source = x.source;
+    if !(asked.equals(source) & source.before_end()) {
+        return rests_at(x);
+    }
+    let q = smaller(x.value, slot.quantity);
+    let destination = x.destination;
+    let kept = x.slot;
+    let opened = slot.destination;
+    let token = Token {
+        source: asked,
+        destination: opened,
+        quantity: q,
+    };
+    let next = source.next();
+    let gave = Side {
+        value: x.value - q,
+        source: next,
+        destination,
+        slot: kept,
+        token: HeldToken::OneToken(token),
+    };
+    acts_with(q, gave)
+}

@@ -1,0 +1,13 @@
+// What of a station the five rules see when it takes a message: its value, its clocks, and what it holds for the sender.
+use crate::clocks::DestinationClock;
+use crate::clocks::SourceClock;
+use crate::held::HeldSlot;
+use crate::held::HeldToken;
+
+pub struct Side {
+    pub value: u64,
+    pub source: SourceClock,
+    pub destination: DestinationClock,
+    pub slot: HeldSlot,
+    pub token: HeldToken,
+}

@@ -1,0 +1,100 @@
+// What an add and a draw do to a stock of passes: a value, and the intake, which is all that was ever added.
+ghost use mathlib.Core.Path.{_≡_};
+ghost use Rattle.rules.specs.Stock.{stockSound, amountSound, addToAnswer, addedTo, drawFromAnswer, drawnFrom};
+use crate::answers;
+use crate::limits::MOST_AMOUNT;
+use crate::limits::MOST_INTAKE;
+use crate::limits::MOST_VALUE;
+use crate::rules::smaller;
+
+pub struct Stock {
+    pub answer: u8,
+    pub result: u64,
+    pub value: u64,
+    pub intake: u64,
+}
+
+fn stock_is_sound(value: u64, intake: u64) -> bool
+    ensures { λ r. ⌜ r ≡ stockSound value intake ⌝ }
+{
+    (value <= MOST_VALUE) & (intake <= MOST_INTAKE)
+}
+
+fn amount_is_sound(amount: u64) -> bool
+    ensures { λ r. ⌜ r ≡ amountSound amount ⌝ }
+{
+    (1 <= amount) & (amount <= MOST_AMOUNT)
+}
+
+fn add_to_answer(value: u64, intake: u64, amount: u64) -> u8
+    ensures { λ r. ⌜ r ≡ addToAnswer value intake amount ⌝ }
+{
+    if !stock_is_sound(value, intake) {
+        return answers::NOT_SOUND;
+    }
+    if !amount_is_sound(amount) {
+        return answers::BAD_AMOUNT;
+    }
+    if MOST_INTAKE < intake + amount {
+        return answers::INTAKE_LIMIT;
+    }
+    if MOST_VALUE < value + amount {
+        return answers::VALUE_LIMIT;
+    }
+    answers::DONE
+}
+
+// Raises value and intake: refused by 1, 4, 5, 10.
+pub fn add_to(value: u64, intake: u64, amount: u64) -> Stock
+    ensures { λ r. ⌜ r ≡ addedTo value intake amount ⌝ }
+{
+    let answer = add_to_answer(value, intake, amount);
+    if answer != answers::DONE {
+        return Stock {
+            answer,
+            result: 0,
+            value,
+            intake,
+        };
+    }
+    Stock {
+        answer,
+        result: value + amount,
+        value: value + amount,
+        intake: intake + amount,
+    }
+}
+
+fn draw_from_answer(value: u64, intake: u64, amount: u64) -> u8
+    ensures { λ r. ⌜ r ≡ drawFromAnswer value intake amount ⌝ }
+{
+    if !stock_is_sound(value, intake) {
+        return answers::NOT_SOUND;
+    }
+    if !amount_is_sound(amount) {
+        return answers::BAD_AMOUNT;
+    }
+    answers::DONE
+}
+
+// Takes the smaller of the value and the amount: refused by 1, 4.
+pub fn draw_from(value: u64, intake: u64, amount: u64) -> Stock
+    ensures { λ r. ⌜ r ≡ drawnFrom value intake amount ⌝ }
+{
+    let answer = draw_from_answer(value, intake, amount);
+    if answer != answers::DONE {
+        return Stock {
+            answer,
+            result: 0,
+            value,
+            intake,
+        };
+    }
+    let taken = smaller(value, amount);
+    Stock {
+        answer,
+        result: taken,
+        value: value - taken,
+        intake,
+    }
+}
