@@ -159,7 +159,7 @@ fn records() {
     try_record(b"write, no bytes", m, 80, 0);
     try_record(
         b"write what is not sound",
-        station::message::no_message(),
+        rules::message::no_message(),
         80,
         30,
     );
