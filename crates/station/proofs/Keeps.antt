@@ -30,7 +30,7 @@ after P zero s d p f = f refl
 after P (suc n) s d p f = p
 
 -- another value and intake in range leave the rest as it was
-stock-sound : (s : Station) (value intake : ℕ) → stationSound s ≡ true → value ≤ mostValue → intake ≤ mostIntake → stationSound (putStock s value intake) ≡ true
+pub stock-sound : (s : Station) (value intake : ℕ) → stationSound s ≡ true → value ≤ mostValue → intake ≤ mostIntake → stationSound (putStock s value intake) ≡ true
 unfolding stationSound
 stock-sound s value intake e v i =
     let w = station-parts s e in

@@ -1,88 +1,129 @@
 -- Every step of a sound table leaves a sound table. Assumes nothing.
-use Prim.Native.Nat.{ℕ, zero, suc}
-use mathlib.Core.Path.{_≡_, refl}
-use mathlib.Core.Bool.{true, not}
+use Prim.Native.Nat.{ℕ, zero, suc, _+_, _-_, _<_, min}
+use mathlib.Core.Path.{_≡_, refl, sym, _∙_}
+use mathlib.Core.Bool.{true, false, not, _&&_}
+use mathlib.Core.List.{[], _∷_}
 use native.Mathlib.Omega.{arith}
-use lib.Dec.{ltb}
-use borrow.Author.Tests.{ltb-true, lt-ltb, not-false}
-use Rattle.station.specs.declared.outcome.Outcome.{Outcome}
-use Rattle.rules.specs.Refusals.{orElse}
-use Rattle.rules.specs.Limits.{mostStations}
-use Rattle.station.specs.Steps.{addOf, drawOf, showOf, receiveOf}
+use lib.Dec.{ltb, eqb}
+use borrow.Author.Tests.{ltb-true, ltb-false, lt-ltb, le-ltb, eq-eqb, ne-eqb, eqb-false, not-false}
+use Rattle.rules.specs.declared.message.Message.{Message}
+use Rattle.rules.specs.Limits.{mostValue, mostIntake}
+use Rattle.rules.specs.Refusals.{when, answerOf}
+use Rattle.rules.specs.Rules.{fill}
+use Rattle.rules.specs.Stock.{amountSound}
+use Rattle.rules.proofs.Below.{both-hold}
 use Rattle.rules.proofs.Refusing.{passed}
-use Rattle.station.proofs.Keeps.{add-keeps, add-seat, draw-keeps, draw-seat}
+use Rattle.station.specs.declared.station.Station.{Station}
+use Rattle.station.specs.Side.{sideFor, putSide}
+use Rattle.station.specs.Sound.{stationSound}
+use Rattle.station.specs.Steps.{showAnswer, messageFor, receiveAnswer, receiveOf}
+use Rattle.station.proofs.Keeps.{stock-sound, message-sound, receive-keeps}
+use Rattle.station.proofs.Parts.{station-parts}
 use Rattle.table.specs.declared.pool.Waiting.{Waiting}
 use Rattle.table.specs.declared.pool.Waiting.the-variants.{Empty, One}
-use Rattle.table.specs.declared.planning.Plan.{Plan}
+use Rattle.table.specs.declared.steps.Asked.{Asked}
+use Rattle.table.specs.declared.steps.Asked.the-variants.{NoStep, OneStep}
 use Rattle.table.specs.declared.steps.Step.{Step}
 use Rattle.table.specs.declared.steps.Step.the-variants.{Add, Draw, Send, Deliver, Lose}
 use Rattle.table.specs.declared.table.Table.{Table}
-use Rattle.table.specs.Table.{mostPlaces, stationAt, waitingAt, receiverOf, lowestEmpty}
+use Rattle.table.specs.Table.{mostPlaces, isEmpty, stationAt, waitingAt, lowestEmpty}
 use Rattle.table.specs.Sound.{placeSound, tableSound}
-use Rattle.table.specs.Steps.{stationPlan, placePlan, planned, stationAnswer, atStation, lowestAnswer, atLowest, placeAnswer, deliverBy, loseBy}
-use Rattle.table.specs.Steps.{planBy, tableAnswer, planOf, applied, stepOf}
-use Rattle.table.proofs.Tables.{Seated, SoundTable, table-parts, table-whole, waits}
-use Rattle.table.proofs.Puts.{seat-of, moved, receive-seated, show-waits, place-whole, put-station, put-place}
+use Rattle.table.specs.Steps.{answeredStep, delivered, overfills, stepRefusals, stepDone, stepOf}
+use Rattle.table.specs.Running.{askedStep}
+use Rattle.table.proofs.Tables.{Seated, Waits, SoundTable, table-parts, table-whole, waits}
+use Rattle.table.proofs.Puts.{seat-of, moved, place-whole, put-station, put-place}
 
--- an answer, or the next one, is 0 only where the first is
-pub or-first : (n later : ℕ) → orElse n later ≡ 0 → n ≡ 0
-or-first zero later e = refl
-or-first (suc n) later e = e
+-- what a send that is not refused has passed
+pub record Sends (t : Table) (from to : ℕ) : Type 0 where
+  pub from-below : from < t .count
+  pub to-below : to < t .count
+  pub other : from ≡ to → ⊥
+  pub free : lowestEmpty (t .pool) < mostPlaces
+
+pub sends : (t : Table) (from to : ℕ) → answerOf (stepRefusals t (Send from to)) ≡ 0 → Sends t from to
+sends t from to e =
+    let one = passed (not (tableSound t)) 0 e in
+    let two = passed (not (ltb from (t .count) && ltb to (t .count))) 1 (one .1) in
+    let three = passed (eqb from to) 2 (two .1) in
+    let four = passed (not (ltb (lowestEmpty (t .pool)) mostPlaces)) 5 (three .1) in
+    let ends = both-hold (ltb from (t .count)) (ltb to (t .count)) (not-false _ (two .0)) in
+    record {
+      from-below = ltb-true _ _ (ends .0);
+      to-below = ltb-true _ _ (ends .1);
+      other = eqb-false _ _ (three .0);
+      free = ltb-true _ _ (not-false _ (four .0));
+    }
 
 module _ {t : Table} (w : SoundTable t) where
-  -- a refusal changes nothing, so a plan keeps a table sound if it does so where the answer is 0
-  by-plan : (n : ℕ) (p : Plan) → (n ≡ 0 → SoundTable (applied t p)) → SoundTable (applied t (planned n p))
-  by-plan zero p f = f refl
-  by-plan (suc n) p f = w
+  -- the sender shows a message to a peer
+  pub shows-peer : {from to : ℕ} → from < t .count → to < t .count → (from ≡ to → ⊥) → showAnswer (stationAt t from) to ≡ 0
+  shows-peer {from} {to} h g n =
+      let seat = seat-of w from h in
+      rw (seat .sound, lt-ltb to (stationAt t from .count) (omega (arith, seat .count)), ne-eqb to (stationAt t from .number) (λ f. n (sym (f ∙ seat .number))))
 
-  -- add and draw: the station after the step sits where it sat
-  at-seat : (k : ℕ) (r : Outcome) → (Seated (stationAt t k) k (t .count) → Seated (r .station) k (t .count)) → SoundTable (applied t (atStation k (t .count) r))
-  at-seat k r f =
-      by-plan (stationAnswer k (t .count) r) (stationPlan k r)
-      (λ e. put-station k w (f (seat-of w k (ltb-true k (t .count) (not-false _ (passed (not (ltb k (t .count))) 1 e .0))))))
+  -- a message that waits and does not overfill is received by the station that it is for
+  pub received-there : (m : Message) → Waits m (t .count) → overfills t (One m) ≡ false → receiveAnswer (stationAt t (m .to)) m ≡ 0
+  received-there m there e =
+      let seat = seat-of w (m .to) (there .to) in
+      rw (
+        seat .sound,
+        there .sound,
+        lt-ltb (m .from) (stationAt t (m .to) .count) (omega (arith, there .from, seat .count)),
+        lt-ltb (m .to) (stationAt t (m .to) .count) (omega (arith, there .to, seat .count)),
+        eq-eqb (m .to) (stationAt t (m .to) .number) (sym (seat .number)),
+        e,
+      )
 
-  -- deliver: a message that waits is for a station of the table
-  delivered : (v : Waiting) → placeSound v (t .count) ≡ true → SoundTable (applied t (deliverBy v (stationAt t (receiverOf v))))
-  delivered Empty e = w
-  delivered (One m) e =
-      let there = waits m (t .count) e in
-      let r = receiveOf (stationAt t (m .to)) m in
-      rw (lt-ltb (m .to) mostStations (omega (arith, w .most, there .to)))
-      (by-plan (r .answer) (stationPlan (m .to) r)
-      (λ z. put-station (m .to) w (receive-seated (seat-of w (m .to) (there .to)) m)))
+  taken-seated : (m : Message) → Waits m (t .count) → overfills t (One m) ≡ false → SoundTable (delivered t (One m) .table)
+  unfolding receiveOf
+  taken-seated m there e =
+      let s = stationAt t (m .to) in
+      let seat = seat-of w (m .to) (there .to) in
+      put-station (m .to) w (moved seat (rw (received-there m there e) at (receive-keeps s m (seat .sound))) (refl, refl))
 
-  -- lose: an empty place is sound
-  lost : (p : ℕ) (v : Waiting) → SoundTable (applied t (loseBy p v))
-  lost p Empty = w
-  lost p (One m) = put-place p Empty w refl
-
-  -- send: the message that the sender shows waits
-  sent : (from to p : ℕ) → SoundTable (applied t (atLowest from (t .count) (showOf (stationAt t from) to) p))
-  sent from to p =
-      let shows = showOf (stationAt t from) to in
-      by-plan (lowestAnswer from (t .count) shows p) (placePlan p p (One (shows .message)))
-      (λ e.
-      let one = passed (not (ltb from (t .count))) 1 e in
-      let h = ltb-true from (t .count) (not-false _ (one .0)) in
-      put-place p (One (shows .message)) w (place-whole (show-waits (seat-of w from h) to h (or-first (shows .answer) _ (one .1)))))
-
-  -- each step by its own reason
-  by-step : (step : Step) → SoundTable (applied t (planBy t step))
-  by-step (Add k amount) =
+  -- each step that is not refused, by its own reason
+  done-keeps : (step : Step) → answerOf (stepRefusals t step) ≡ 0 → SoundTable (stepDone t step .table)
+  done-keeps (Add k amount) e =
+      let one = passed (not (tableSound t)) 0 e in
+      let two = passed (not (ltb k (t .count))) 1 (one .1) in
+      let three = passed (not (amountSound amount)) 3 (two .1) in
+      let four = passed (ltb mostIntake (stationAt t k .intake + amount)) 4 (three .1) in
+      let five = passed (ltb mostValue (stationAt t k .value + amount)) 9 (four .1) in
+      let seat = seat-of w k (ltb-true _ _ (not-false _ (two .0))) in
+      put-station k w (moved seat (stock-sound (stationAt t k) _ _ (seat .sound) (ltb-false _ _ (five .0)) (ltb-false _ _ (four .0))) (refl, refl))
+  done-keeps (Draw k amount) e =
+      let one = passed (not (tableSound t)) 0 e in
+      let two = passed (not (ltb k (t .count))) 1 (one .1) in
       let s = stationAt t k in
-      at-seat k (addOf s amount) (λ old. moved old (add-keeps s amount (old .sound)) (add-seat s amount))
-  by-step (Draw k amount) =
-      let s = stationAt t k in
-      at-seat k (drawOf s amount) (λ old. moved old (draw-keeps s amount (old .sound)) (draw-seat s amount))
-  by-step (Send from to) = sent from to (lowestEmpty (t .pool))
-  by-step (Deliver p) =
-      let v = waitingAt t p in
-      by-plan (placeAnswer p) (deliverBy v (stationAt t (receiverOf v)))
-      (λ e. delivered v (w .places p (ltb-true p mostPlaces (not-false _ (passed (not (ltb p mostPlaces)) 6 e .0)))))
-  by-step (Lose p) = by-plan (placeAnswer p) (loseBy p (waitingAt t p)) (λ e. lost p (waitingAt t p))
+      let seat = seat-of w k (ltb-true _ _ (not-false _ (two .0))) in
+      let parts = station-parts s (seat .sound) in
+      put-station k w (moved seat (stock-sound s (s .value - min (s .value) amount) (s .intake) (seat .sound) (omega (arith, parts .value)) (parts .intake)) (refl, refl))
+  done-keeps (Send from to) e =
+      let z = sends t from to e in
+      let seat = seat-of w from (z .from-below) in
+      let shows = shows-peer (z .from-below) (z .to-below) (z .other) in
+      put-place (lowestEmpty (t .pool)) (One (messageFor (stationAt t from) to)) w
+      (place-whole (record { sound = message-sound (stationAt t from) to shows; from = omega (arith, seat .number, z .from-below); to = z .to-below }))
+  done-keeps (Deliver p) e =
+      let one = passed (not (tableSound t)) 0 e in
+      let two = passed (not (ltb p mostPlaces)) 6 (one .1) in
+      by (waitingAt t p) (w .places p (ltb-true _ _ (not-false _ (two .0)))) (two .1)
+    where
+      by : (v : Waiting) → placeSound v (t .count) ≡ true
+          → answerOf (when (isEmpty v) 8 ∷ when (overfills t v) 10 ∷ []) ≡ 0
+          → SoundTable (delivered t v .table)
+      by Empty s z = w
+      by (One m) s z = taken-seated m (waits m (t .count) s) (passed (overfills t (One m)) 9 z .0)
+  done-keeps (Lose p) e = put-place p Empty w refl
 
 pub step-keeps : (t : Table) (step : Step) → tableSound t ≡ true → tableSound (stepOf t step .table) ≡ true
-unfolding stepOf planOf
-step-keeps t step e =
-    let w = table-parts t e in
-    table-whole _ (by-plan w (tableAnswer t) (planBy t step) (λ z. by-step w step))
+unfolding stepOf
+step-keeps t step e = by (answerOf (stepRefusals t step)) refl
+  where
+    by : (n : ℕ) → answerOf (stepRefusals t step) ≡ n → tableSound (answeredStep n t (stepDone t step) .table) ≡ true
+    by zero z = table-whole _ (done-keeps (table-parts t e) step z)
+    by (suc n) z = e
+
+pub asked-keeps : (t : Table) (asked : Asked) → tableSound t ≡ true → tableSound (askedStep t asked .table) ≡ true
+asked-keeps t NoStep e = e
+asked-keeps t (OneStep step) e = step-keeps t step e

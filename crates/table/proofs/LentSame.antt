@@ -1,12 +1,14 @@
 -- On 64 places the lent send and lose tell and leave what the table's send and lose do. Assumes nothing.
 use Prim.Native.Nat.{ℕ, _<_}
-use mathlib.Core.Path.{_≡_, refl}
+use mathlib.Core.Path.{_≡_, refl, sym, _∙_}
+use native.Mathlib.Omega.{arith}
 use mathlib.Core.Bool.{Bool, true, false}
 use mathlib.Core.List.{List}
-use lib.Dec.{ltb}
+use lib.Dec.{ltb, eqb}
 use lib.ListN.{length}
-use borrow.Author.Tests.{eq-eqb, lt-ltb}
-use Rattle.station.specs.Steps.{showAnswer, showOf, messageFor}
+use borrow.Author.Tests.{eq-eqb, lt-ltb, ne-eqb}
+use Rattle.station.specs.Steps.{showAnswer, messageFor}
+use Rattle.station.proofs.Answering.{shown}
 use Rattle.table.specs.declared.pool.Waiting.{Waiting}
 use Rattle.table.specs.declared.pool.Waiting.the-variants.{Empty, One}
 use Rattle.table.specs.declared.pool.Place.{Place}
@@ -16,7 +18,9 @@ use Rattle.table.specs.declared.table.Table.{Table}
 use Rattle.table.specs.declared.lent.Told.{Told}
 use Rattle.table.specs.Table.{mostPlaces, stationAt, waitingAt, lowestEmpty}
 use Rattle.table.specs.Sound.{tableSound}
-use Rattle.table.specs.Steps.{planOf, stepOf}
+use Rattle.table.specs.Steps.{stepOf}
+use Rattle.table.proofs.Puts.{seat-of}
+use Rattle.table.proofs.Tables.{table-parts}
 use Rattle.table.specs.Lent.{sendInTold, sendInPool, loseInTold, loseInPool}
 
 -- a step of the table, and what a lent step told and left
@@ -28,7 +32,7 @@ pub record LentAs (x : Stepped) (told : Told) (places : List Place) : Type 0 whe
 module _ (t : Table) (sound : tableSound t ≡ true) (full : length (t .pool) ≡ mostPlaces) where
   lose-by : (p : ℕ) (b : Bool) (w : Waiting) → ltb p mostPlaces ≡ b → waitingAt t p ≡ w
       → LentAs (stepOf t (Lose p)) (loseInTold (t .pool) p) (loseInPool (t .pool) p)
-  unfolding stepOf planOf
+  unfolding stepOf
   lose-by p false w e h =
       record {
         answer = rw (sound, eq-eqb _ _ full, e);
@@ -53,19 +57,29 @@ module _ (t : Table) (sound : tableSound t ≡ true) (full : length (t .pool) �
 
   send-by : (from to : ℕ) (b : Bool) → from < t .count → showAnswer (stationAt t from) to ≡ 0 → ltb (lowestEmpty (t .pool)) mostPlaces ≡ b
       → LentAs (stepOf t (Send from to)) (sendInTold (t .pool)) (sendInPool (t .pool) (messageFor (stationAt t from) to))
-  unfolding stepOf planOf showOf
-  send-by from to false h a e =
-      record {
-        answer = rw (sound, eq-eqb _ _ full, lt-ltb _ _ h, a, e);
-        result = rw (sound, eq-eqb _ _ full, lt-ltb _ _ h, a, e);
-        pool = rw (sound, eq-eqb _ _ full, lt-ltb _ _ h, a, e);
-      }
-  send-by from to true h a e =
-      record {
-        answer = rw (sound, eq-eqb _ _ full, lt-ltb _ _ h, a, e);
-        result = rw (sound, eq-eqb _ _ full, lt-ltb _ _ h, a, e);
-        pool = rw (sound, eq-eqb _ _ full, lt-ltb _ _ h, a, e);
-      }
+  unfolding stepOf
+  send-by from to b h a e = by b e
+    where
+      below : ltb to (t .count) ≡ true
+      below = lt-ltb to (t .count) (omega (arith, shown (stationAt t from) to a .below, seat-of (table-parts t sound) from h .count))
+
+      other : eqb from to ≡ false
+      other = ne-eqb from to (λ f. shown (stationAt t from) to a .other (sym f ∙ sym (seat-of (table-parts t sound) from h .number)))
+
+      by : (b : Bool) → ltb (lowestEmpty (t .pool)) mostPlaces ≡ b
+          → LentAs (stepOf t (Send from to)) (sendInTold (t .pool)) (sendInPool (t .pool) (messageFor (stationAt t from) to))
+      by false e =
+          record {
+            answer = rw (sound, eq-eqb _ _ full, lt-ltb _ _ h, below, other, e);
+            result = rw (sound, eq-eqb _ _ full, lt-ltb _ _ h, below, other, e);
+            pool = rw (sound, eq-eqb _ _ full, lt-ltb _ _ h, below, other, e);
+          }
+      by true e =
+          record {
+            answer = rw (sound, eq-eqb _ _ full, lt-ltb _ _ h, below, other, e);
+            result = rw (sound, eq-eqb _ _ full, lt-ltb _ _ h, below, other, e);
+            pool = rw (sound, eq-eqb _ _ full, lt-ltb _ _ h, below, other, e);
+          }
 
   pub send-lent : (from to : ℕ) → from < t .count → showAnswer (stationAt t from) to ≡ 0
       → LentAs (stepOf t (Send from to)) (sendInTold (t .pool)) (sendInPool (t .pool) (messageFor (stationAt t from) to))

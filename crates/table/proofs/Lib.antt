@@ -1,6 +1,13 @@
 pub mod First
 pub mod Tables
 pub mod Plans
+pub mod Fives
+pub mod Flags
+pub mod Rests
+pub mod Looks
+pub mod InPlace
+pub mod Turns
+pub mod Ran
 pub mod Sums
 pub mod Puts
 pub mod Kept

@@ -1,7 +1,9 @@
 pub mod Table
 pub mod Sound
 pub mod Steps
+pub mod Running
+pub mod Looking
+pub mod Planning
 pub mod Fresh
 pub mod Way
 pub mod Lent
-pub mod Running

@@ -1,11 +1,12 @@
 -- A run of steps in one call: steps as numbers, three for each, and what each tells as numbers, five for each.
-use Prim.Native.Nat.{ℕ, zero, suc, min, _/_}
+use Prim.Native.Nat.{ℕ, zero, suc, min, _/_, _%_}
 use mathlib.Core.Path.{_≡_}
 use mathlib.Core.Bool.{cond}
 use mathlib.Core.List.{List, [], _∷_, _++_}
 use lib.Dec.{eqb}
 use lib.ListN.{length, getD, drop}
 use lib.Seq.{sets}
+use Rattle.rules.specs.declared.report.Report.{Report}
 use Rattle.rules.specs.Answers.{done, notSound, badLine}
 use Rattle.rules.specs.Report.{noReport, rulesOf}
 use Rattle.table.specs.declared.running.Ran.{Ran}
@@ -81,3 +82,16 @@ toldOf t codes told = cond (tableSound t) (sets told 0 (toldBy t (askedOf codes 
 pub record Runs (t : Table) (codes told : List ℕ) (r : Ran) (later : List ℕ) : Type 0 where
   pub ran : r ≡ ranOf t codes told
   pub lent : later ≡ toldOf t codes told
+
+-- the report that the last three of five numbers tell
+abbrev pub reportOf : ℕ → ℕ → ℕ → Report
+reportOf rules opened made =
+    record {
+      rule1 = eqb (rules % 2) 1;
+      rule2 = eqb (rules / 2 % 2) 1;
+      rule3 = eqb (rules / 4 % 2) 1;
+      rule4 = eqb (rules / 8 % 2) 1;
+      rule5 = eqb (rules / 16 % 2) 1;
+      opened = opened;
+      made = made;
+    }

@@ -1,143 +1,101 @@
--- The steps of a table: what each answers, under which conditions in which order, and what it changes.
-use Prim.Native.Nat.{ℕ, zero, suc, _<_}
-use mathlib.Core.Bool.{Bool, true, false, not}
-use lib.Dec.{ltb}
-use Rattle.station.specs.declared.station.Station.{Station}
-use Rattle.station.specs.declared.message.Shown.{Shown}
-use Rattle.station.specs.declared.outcome.Outcome.{Outcome}
-use Rattle.rules.specs.Answers.{done, notSound, notBelowCount, poolFull, noSuchPlace, emptyPlace}
-use Rattle.rules.specs.Limits.{mostStations}
+-- The steps of a table: the refusals of each in their order, and what it does where none of them holds.
+use Prim.Native.Nat.{ℕ, zero, suc, _+_, _-_, min}
+use mathlib.Core.Bool.{Bool, false, not, _&&_}
+use mathlib.Core.List.{List, [], _∷_}
+use lib.Dec.{ltb, eqb}
+use Rattle.rules.specs.declared.message.Message.{Message}
+use Rattle.rules.specs.declared.report.Report.{Report}
+use Rattle.rules.specs.Answers.{done, notSound, notBelowCount, sameStation, badAmount, intakeLimit, poolFull, noSuchPlace, emptyPlace, valueLimit}
+use Rattle.rules.specs.Limits.{mostIntake, mostValue}
+use Rattle.rules.specs.Refusals.{Refusal, when, answerOf}
 use Rattle.rules.specs.Report.{noReport}
-use Rattle.rules.specs.Refusals.{first, orElse}
-use Rattle.station.specs.Steps.{blank, addOf, drawOf, showOf, receiveOf}
+use Rattle.rules.specs.Rules.{fill}
+use Rattle.rules.specs.Stock.{amountSound}
+use Rattle.rules.specs.Taking.{takeOf}
+use Rattle.station.specs.declared.station.Station.{Station}
+use Rattle.station.specs.Side.{sideFor, putSide}
+use Rattle.station.specs.Steps.{putStock, messageFor}
 use Rattle.table.specs.declared.pool.Waiting.{Waiting}
 use Rattle.table.specs.declared.pool.Waiting.the-variants.{Empty, One}
 use Rattle.table.specs.declared.table.Table.{Table}
-use Rattle.table.specs.declared.planning.Change.{Change}
-use Rattle.table.specs.declared.planning.Change.the-variants.{Nothing, AtStation, AtPlace}
-use Rattle.table.specs.declared.planning.Plan.{Plan}
 use Rattle.table.specs.declared.steps.Step.{Step}
 use Rattle.table.specs.declared.steps.Step.the-variants.{Add, Draw, Send, Deliver, Lose}
 use Rattle.table.specs.declared.stepping.Stepped.{Stepped}
-use Rattle.table.specs.Table.{mostPlaces, stationAt, waitingAt, receiverOf, putStation, putPlace, lowestEmpty}
+use Rattle.table.specs.Table.{mostPlaces, stationAt, waitingAt, isEmpty, putStation, putPlace, lowestEmpty}
 use Rattle.table.specs.Sound.{tableSound}
 
--- a refusal has result 0, names no rule, and changes nothing
-abbrev pub refusedPlan : ℕ → Plan
-refusedPlan n = record { answer = n; result = 0; report = noReport; change = Nothing; at = 0; station = blank 0 0; waiting = Empty }
+-- a step done: its result, its report and the table after it
+abbrev pub did : ℕ → Report → Table → Stepped
+did result report t = record { answer = done; result = result; report = report; table = t }
 
--- one station becomes what an outcome says, or one place holds another thing
-abbrev pub stationPlan : ℕ → Outcome → Plan
-stationPlan k r = record { answer = done; result = r .result; report = r .report; change = AtStation; at = k; station = r .station; waiting = Empty }
+-- answer 0 is the step done; any other is a refusal: result 0, no rule named, nothing changed
+abbrev pub answeredStep : ℕ → Table → Stepped → Stepped
+answeredStep zero t d = d
+answeredStep (suc n) t d = record { answer = suc n; result = 0; report = noReport; table = t }
 
-abbrev pub placePlan : ℕ → ℕ → Waiting → Plan
-placePlan p result w = record { answer = done; result = result; report = noReport; change = AtPlace; at = p; station = blank 0 0; waiting = w }
+-- Add raises value and intake. Result: the new value.
+abbrev pub added : Table → ℕ → ℕ → Station → Stepped
+added t k amount s = did (s .value + amount) noReport (putStation t k (putStock s (s .value + amount) (s .intake + amount)))
 
--- answer 0 is the plan; any other is a refusal
-abbrev pub planned : ℕ → Plan → Plan
-planned zero p = p
-planned (suc n) p = refusedPlan (suc n)
+-- Draw takes the smaller of the value and the amount asked. Result: what was taken.
+abbrev pub drawn : Table → ℕ → ℕ → Station → Stepped
+drawn t k taken s = did taken noReport (putStation t k (putStock s (s .value - taken) (s .intake)))
 
--- Add and draw: 2, then as at that one station.
-abbrev pub stationAnswer : ℕ → ℕ → Outcome → ℕ
-stationAnswer k count r = first (not (ltb k count)) notBelowCount (r .answer)
+-- Send writes the sender's message into the lowest-numbered empty place. The sender does not change. Result: the place.
+abbrev pub sent : Table → ℕ → Message → Stepped
+sent t p m = did p noReport (putPlace t p (One m))
 
-abbrev pub atStation : ℕ → ℕ → Outcome → Plan
-atStation k count r = planned (stationAnswer k count r) (stationPlan k r)
+-- Deliver lets the receiver take the message at a place by the five rules. The message stays. Result: the amount filled, or 0.
+abbrev pub taken : Table → Message → Station → Stepped
+taken t m s = let r = takeOf (sideFor s (m .from)) m in did (r .result) (r .report) (putStation t (m .to) (putSide s (m .from) (r .side)))
 
--- Send: 2, 3 as the sender shows its message, then 6. The sender does not change. Result: the place.
-abbrev pub lowestAnswer : ℕ → ℕ → Shown → ℕ → ℕ
-lowestAnswer from count shown p = first (not (ltb from count)) notBelowCount (orElse (shown .answer) (first (not (ltb p mostPlaces)) poolFull done))
+-- an empty place is refused, so the first line is not met with
+abbrev pub delivered : Table → Waiting → Stepped
+delivered t Empty = did 0 noReport t
+delivered t (One m) = taken t m (stationAt t (m .to))
 
-abbrev pub atLowest : ℕ → ℕ → Shown → ℕ → Plan
-atLowest from count shown p = planned (lowestAnswer from count shown p) (placePlan p p (One (shown .message)))
+-- Lose empties a place. Result 0.
+abbrev pub lost : Table → ℕ → Stepped
+lost t p = did 0 noReport (putPlace t p Empty)
 
--- a place is one of the 64
-abbrev pub placeAnswer : ℕ → ℕ
-placeAnswer p = first (not (ltb p mostPlaces)) noSuchPlace done
+-- a fill by rule 1 would bring the receiver's value above its limit
+abbrev pub overfills : Table → Waiting → Bool
+overfills t Empty = false
+overfills t (One m) = ltb mostValue (fill (sideFor (stationAt t (m .to)) (m .from)) m .side .value)
 
--- Deliver: 7, 8, then as the receiver receives. The message stays.
-abbrev pub deliverBy : Waiting → Station → Plan
-deliverBy Empty s = refusedPlan emptyPlace
-deliverBy (One m) s = let r = receiveOf s m in planned (r .answer) (stationPlan (m .to) r)
+-- the table lent is not sound
+abbrev pub unsound : Table → Refusal
+unsound t = when (not (tableSound t)) notSound
 
-abbrev pub deliverAt : ℕ → Waiting → Station → Plan
-deliverAt p w s = planned (placeAnswer p) (deliverBy w s)
+abbrev pub stepRefusals : Table → Step → List Refusal
+stepRefusals t (Add k amount) =
+    unsound t
+    ∷ when (not (ltb k (t .count))) notBelowCount
+    ∷ when (not (amountSound amount)) badAmount
+    ∷ when (ltb mostIntake (stationAt t k .intake + amount)) intakeLimit
+    ∷ when (ltb mostValue (stationAt t k .value + amount)) valueLimit
+    ∷ []
+stepRefusals t (Draw k amount) = unsound t ∷ when (not (ltb k (t .count))) notBelowCount ∷ when (not (amountSound amount)) badAmount ∷ []
+stepRefusals t (Send from to) =
+    unsound t
+    ∷ when (not (ltb from (t .count) && ltb to (t .count))) notBelowCount
+    ∷ when (eqb from to) sameStation
+    ∷ when (not (ltb (lowestEmpty (t .pool)) mostPlaces)) poolFull
+    ∷ []
+stepRefusals t (Deliver p) =
+    unsound t
+    ∷ when (not (ltb p mostPlaces)) noSuchPlace
+    ∷ when (isEmpty (waitingAt t p)) emptyPlace
+    ∷ when (overfills t (waitingAt t p)) valueLimit
+    ∷ []
+stepRefusals t (Lose p) = unsound t ∷ when (not (ltb p mostPlaces)) noSuchPlace ∷ when (isEmpty (waitingAt t p)) emptyPlace ∷ []
 
--- Lose: 7, 8. Result 0.
-abbrev pub loseBy : ℕ → Waiting → Plan
-loseBy p Empty = refusedPlan emptyPlace
-loseBy p (One m) = placePlan p 0 Empty
-
-abbrev pub loseAt : ℕ → Waiting → Plan
-loseAt p w = planned (placeAnswer p) (loseBy p w)
-
--- the place that a step looks at, and the station, for what waits at that place; 0 where it looks at none
-abbrev pub placeLookedAt : Step → ℕ
-placeLookedAt (Add k amount) = 0
-placeLookedAt (Draw k amount) = 0
-placeLookedAt (Send from to) = 0
-placeLookedAt (Deliver p) = p
-placeLookedAt (Lose p) = p
-
-abbrev pub stationLookedAt : Step → Waiting → ℕ
-stationLookedAt (Add k amount) w = k
-stationLookedAt (Draw k amount) w = k
-stationLookedAt (Send from to) w = from
-stationLookedAt (Deliver p) w = receiverOf w
-stationLookedAt (Lose p) w = 0
-
--- only a send asks for the lowest-numbered empty place
-abbrev pub needsPlace : Step → Bool
-needsPlace (Add k amount) = false
-needsPlace (Draw k amount) = false
-needsPlace (Send from to) = true
-needsPlace (Deliver p) = false
-needsPlace (Lose p) = false
-
--- a step by what it looks at: the count, the station, what waits at the place, and the lowest-numbered empty place
-abbrev pub planWith : ℕ → Step → Station → Waiting → ℕ → Plan
-planWith count (Add k amount) s w free = atStation k count (addOf s amount)
-planWith count (Draw k amount) s w free = atStation k count (drawOf s amount)
-planWith count (Send from to) s w free = atLowest from count (showOf s to) free
-planWith count (Deliver p) s w free = deliverAt p w s
-planWith count (Lose p) s w free = loseAt p w
-
--- the same, where nothing that comes before refuses the step
-unfoldable pub planAt : ℕ → ℕ → Step → Station → Waiting → ℕ → Plan
-planAt refusal count step s w free = planned refusal (planWith count step s w free)
-
-abbrev pub planBy : Table → Step → Plan
-planBy t step =
-    let w = waitingAt t (placeLookedAt step) in
-    planWith (t .count) step (stationAt t (stationLookedAt step w)) w (lowestEmpty (t .pool))
-
--- 1 comes first
-abbrev pub tableAnswer : Table → ℕ
-tableAnswer t = first (not (tableSound t)) notSound done
-
-unfoldable pub planOf : Table → Step → Plan
-planOf t step = planned (tableAnswer t) (planBy t step)
-
--- the table with what a plan changes
-abbrev pub changed : Table → Change → ℕ → Station → Waiting → Table
-changed t Nothing k s w = t
-changed t AtStation k s w = putStation t k s
-changed t AtPlace k s w = putPlace t k w
-
-abbrev pub applied : Table → Plan → Table
-applied t p = changed t (p .change) (p .at) (p .station) (p .waiting)
-
--- what is changed is there
-abbrev pub inRange : Change → ℕ → Type 0
-inRange Nothing k = Unit {0}
-inRange AtStation k = k < mostStations
-inRange AtPlace k = k < mostPlaces
-
-abbrev pub Applies : Plan → Type 0
-Applies p = inRange (p .change) (p .at)
+abbrev pub stepDone : Table → Step → Stepped
+stepDone t (Add k amount) = added t k amount (stationAt t k)
+stepDone t (Draw k amount) = drawn t k (min (stationAt t k .value) amount) (stationAt t k)
+stepDone t (Send from to) = sent t (lowestEmpty (t .pool)) (messageFor (stationAt t from) to)
+stepDone t (Deliver p) = delivered t (waitingAt t p)
+stepDone t (Lose p) = lost t p
 
 unfoldable pub stepOf : Table → Step → Stepped
-stepOf t step =
-    let p = planOf t step in
-    record { answer = p .answer; result = p .result; report = p .report; table = applied t p }
+stepOf t step = answeredStep (answerOf (stepRefusals t step)) t (stepDone t step)

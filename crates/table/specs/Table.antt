@@ -16,7 +16,7 @@ abbrev pub mostPlaces : ℕ
 mostPlaces = 64
 
 -- what is taken to stand past the end of the stations
-abbrev noStation : Station
+abbrev pub noStation : Station
 noStation = record { number = 0; count = 0; value = 0; intake = 0; source = record { 0 = 0 }; destination = record { 0 = 0 }; slots = []; tokens = [] }
 
 abbrev pub stationIn : List Station → ℕ → Station

@@ -1,6 +1,7 @@
 // A whole table of stations with the messages waiting between them, driven by steps.
 pub mod fresh;
 pub mod lent;
+mod looking;
 pub mod planning;
 pub mod pool;
 pub mod running;
@@ -8,10 +9,11 @@ pub mod sound;
 pub mod stepping;
 pub mod steps;
 pub mod table;
+mod taken;
 pub mod way;
 
 pub use fresh::fresh_table;
-pub use planning::plan_for;
+pub use running::run;
 pub use stepping::step;
 pub use way::at_stations;
 pub use way::on_the_way;

@@ -1,38 +1,31 @@
-// What a step will do to a table: looked up without changing it, so that who holds the table can change just that.
+// What a step will do, by no more of a table than it looks at: one station, its cells for one peer, one place, and the lowest-numbered empty place.
 ghost use mathlib.Core.Path.{_≡_};
-ghost use Prim.Native.Nat.{_<_};
-ghost use Rattle.rules.specs.Limits.{mostStations};
-ghost use Rattle.table.specs.Table.{below, mostPlaces, receiverOf};
-ghost use Rattle.table.specs.Steps.{refusedPlan, stationPlan, placePlan, atStation, atLowest, deliverAt, loseAt, placeLookedAt, stationLookedAt, needsPlace, planAt, planOf};
-use crate::pool::Place;
+ghost use Rattle.table.specs.Planning.{refusedPlan, stockPlan, placePlan, messageBy, sendPlan, sidePlan, deliverPlan, losePlan, planAt};
 use crate::pool::Waiting;
-use crate::pool::lowest_empty;
-use crate::sound::table_is_sound;
+use crate::steps::Asked;
 use crate::steps::Step;
-use crate::table::Table;
 use rules::answers;
+use rules::message::Message;
 use rules::report::Report;
 use rules::report::no_report;
-use station::message::Shown;
-use station::outcome::Outcome;
-use station::station::Station;
-use station::steps::blank_station;
+use rules::side::Side;
+use rules::stock::Stock;
+use rules::taking::Taken;
 
+// What becomes of the one station or place: another stock, another side to the peer, another thing that waits.
 pub enum Change {
     Nothing,
-    AtStation,
-    AtPlace,
+    AtStock(u64, u64),
+    AtSide(Side),
+    AtPlace(usize, Waiting),
 }
 
-// What is told, and what becomes of one station or one place.
+// What is told, and what changes.
 pub struct Plan {
     pub answer: u8,
     pub result: u64,
     pub report: Report,
     pub change: Change,
-    pub at: usize,
-    pub station: Station,
-    pub waiting: Waiting,
 }
 
 // The one place where a refusal is made: result 0, an empty report, nothing changes.
@@ -44,52 +37,12 @@ fn refuse(answer: u8) -> Plan
         result: 0,
         report: no_report(),
         change: Change::Nothing,
-        at: 0,
-        station: blank_station(0, 0),
-        waiting: Waiting::Empty,
     }
 }
 
-fn change_station(k: usize, r: Outcome) -> Plan
-    ensures { λ p. ⌜ p ≡ stationPlan k r ⌝ }
-{
-    let report = r.report;
-    let station = r.station;
-    Plan {
-        answer: answers::DONE,
-        result: r.result,
-        report,
-        change: Change::AtStation,
-        at: k,
-        station,
-        waiting: Waiting::Empty,
-    }
-}
-
-fn change_place(p: usize, result: u64, waiting: Waiting) -> Plan
-    ensures { λ r. ⌜ r ≡ placePlan p result waiting ⌝ }
-{
-    Plan {
-        answer: answers::DONE,
-        result,
-        report: no_report(),
-        change: Change::AtPlace,
-        at: p,
-        station: blank_station(0, 0),
-        waiting,
-    }
-}
-
-// A number as an index: itself where it is below the limit. Where it is not the step is refused, whatever stands at 0.
-fn index_below(n: u64, limit: usize) -> usize
-    ensures { λ r. ⌜ r ≡ below n limit ⌝ }
-{
-    if n < limit as u64 { n as usize } else { 0 }
-}
-
-// What add or draw did at station k of count.
-fn at_station(k: u64, count: usize, r: Outcome) -> Plan
-    ensures { λ p. ⌜ p ≡ atStation k count r ⌝ }
+// What an add or a draw did to the stock of station k of count.
+fn plan_stock(k: u64, count: usize, r: Stock) -> Plan
+    ensures { λ p. ⌜ p ≡ stockPlan k count r ⌝ }
 {
     if count as u64 <= k {
         return refuse(answers::NOT_BELOW_COUNT);
@@ -97,39 +50,87 @@ fn at_station(k: u64, count: usize, r: Outcome) -> Plan
     if r.answer != answers::DONE {
         return refuse(r.answer);
     }
-    change_station(k as usize, r)
+    Plan {
+        answer: answers::DONE,
+        result: r.result,
+        report: no_report(),
+        change: Change::AtStock(r.value, r.intake),
+    }
 }
 
-// The message that station from of count shows, put into the lowest-numbered empty place.
-fn at_lowest(from: u64, count: usize, shown: Shown, p: usize) -> Plan
-    ensures { λ r. ⌜ r ≡ atLowest from count shown p ⌝ }
+fn plan_place(p: usize, result: u64, waiting: Waiting) -> Plan
+    ensures { λ r. ⌜ r ≡ placePlan p result waiting ⌝ }
 {
-    if count as u64 <= from {
+    Plan {
+        answer: answers::DONE,
+        result,
+        report: no_report(),
+        change: Change::AtPlace(p, waiting),
+    }
+}
+
+fn message_of(from: usize, to: usize, x: Side) -> Message
+    ensures { λ r. ⌜ r ≡ messageBy from to x ⌝ }
+{
+    let source = x.source;
+    let destination = x.destination;
+    let slot = x.slot;
+    let token = x.token;
+    Message {
+        from,
+        to,
+        value: x.value,
+        source,
+        destination,
+        slot,
+        token,
+    }
+}
+
+// Station from of count shows station to its side x, in the lowest-numbered empty place.
+fn plan_send(from: u64, to: u64, count: usize, x: Side, free: usize) -> Plan
+    ensures { λ r. ⌜ r ≡ sendPlan from to count x free ⌝ }
+{
+    let limit = count as u64;
+    if !((from < limit) & (to < limit)) {
         return refuse(answers::NOT_BELOW_COUNT);
     }
-    if shown.answer != answers::DONE {
-        return refuse(shown.answer);
+    if from == to {
+        return refuse(answers::SAME_STATION);
     }
-    if 64 <= p {
+    if 64 <= free {
         return refuse(answers::POOL_FULL);
     }
-    let message = shown.message;
-    change_place(p, p as u64, Waiting::One(message))
+    let m = message_of(from as usize, to as usize, x);
+    plan_place(free, free as u64, Waiting::One(m))
 }
 
-// The station that the message at a place is for; the index 0 where there is no message.
-fn receiver_of(waiting: Waiting) -> usize
-    ensures { λ r. ⌜ r ≡ receiverOf waiting ⌝ }
+// What the rules did to a side. Where none acted, nothing changes.
+fn plan_side(r: Taken) -> Plan
+    ensures { λ p. ⌜ p ≡ sidePlan r ⌝ }
 {
-    let Waiting::One(m) = waiting else {
-        return 0;
+    if r.answer != answers::DONE {
+        return refuse(r.answer);
+    }
+    let report = r.report;
+    let side = r.side;
+    let acted = report.rule1 | report.rule2 | report.rule3 | report.rule4 | report.rule5;
+    let change = if acted {
+        Change::AtSide(side)
+    } else {
+        Change::Nothing
     };
-    index_below(m.to as u64, 16)
+    Plan {
+        answer: answers::DONE,
+        result: r.result,
+        report,
+        change,
+    }
 }
 
-// The receiver s takes the message at place p.
-fn deliver_at(p: u64, waiting: Waiting, s: Station) -> Plan
-    ensures { λ r. ⌜ r ≡ deliverAt p waiting s ⌝ }
+// The side x takes the message that waits at place p.
+fn plan_deliver(p: u64, waiting: Waiting, x: Side) -> Plan
+    ensures { λ r. ⌜ r ≡ deliverPlan p waiting x ⌝ }
 {
     if 64 <= p {
         return refuse(answers::NO_SUCH_PLACE);
@@ -137,16 +138,12 @@ fn deliver_at(p: u64, waiting: Waiting, s: Station) -> Plan
     let Waiting::One(m) = waiting else {
         return refuse(answers::EMPTY_PLACE);
     };
-    let taken = station::receive(s, m);
-    if taken.answer != answers::DONE {
-        return refuse(taken.answer);
-    }
-    change_station(m.to, taken)
+    plan_side(rules::take(x, m))
 }
 
 // Place p is emptied.
-fn lose_at(p: u64, waiting: Waiting) -> Plan
-    ensures { λ r. ⌜ r ≡ loseAt p waiting ⌝ }
+fn plan_lose(p: u64, waiting: Waiting) -> Plan
+    ensures { λ r. ⌜ r ≡ losePlan p waiting ⌝ }
 {
     if 64 <= p {
         return refuse(answers::NO_SUCH_PLACE);
@@ -154,84 +151,28 @@ fn lose_at(p: u64, waiting: Waiting) -> Plan
     let Waiting::One(_) = waiting else {
         return refuse(answers::EMPTY_PLACE);
     };
-    change_place(p as usize, 0, Waiting::Empty)
+    plan_place(p as usize, 0, Waiting::Empty)
 }
 
-// The place that a step looks at; the index 0 where it looks at none.
-pub fn place_looked_at(step: Step) -> usize
-    ensures { λ r. ⌜ r ≡ below (placeLookedAt step) mostPlaces ⌝ }
-{
-    match step {
-        Step::Add(_, _) => 0,
-        Step::Draw(_, _) => 0,
-        Step::Send(_, _) => 0,
-        Step::Deliver(p) => index_below(p, 64),
-        Step::Lose(p) => index_below(p, 64),
-    }
-}
-
-// The station that a step looks at, for what waits at the place that it looks at; the index 0 where it looks at none.
-pub fn station_looked_at(step: Step, waiting: Waiting) -> usize
-    ensures { λ r. ⌜ r ≡ below (stationLookedAt step waiting) mostStations ⌝ }
-{
-    match step {
-        Step::Add(k, _) => index_below(k, 16),
-        Step::Draw(k, _) => index_below(k, 16),
-        Step::Send(from, _) => index_below(from, 16),
-        Step::Deliver(_) => index_below(receiver_of(waiting) as u64, 16),
-        Step::Lose(_) => 0,
-    }
-}
-
-// Whether a step asks for the lowest-numbered empty place, so that no other step has it searched.
-pub fn needs_place(step: Step) -> bool
-    ensures { λ r. ⌜ r ≡ needsPlace step ⌝ }
-{
-    match step {
-        Step::Add(_, _) => false,
-        Step::Draw(_, _) => false,
-        Step::Send(_, _) => true,
-        Step::Deliver(_) => false,
-        Step::Lose(_) => false,
-    }
-}
-
-// What a step will do, by no more of the table than it looks at, where nothing that comes before refuses it.
-pub fn plan_at(
-    refusal: u8,
+// What is asked for, by what of the table it looks at.
+pub(crate) fn plan_at(
     count: usize,
-    step: Step,
-    s: Station,
+    asked: Asked,
+    intake: u64,
+    x: Side,
     waiting: Waiting,
     free: usize,
 ) -> Plan
-    ensures { λ r. ⌜ r ≡ planAt refusal count step s waiting free ⌝ }
+    ensures { λ r. ⌜ r ≡ planAt count asked intake x waiting free ⌝ }
 {
-    if refusal != answers::DONE {
-        return refuse(refusal);
-    }
+    let Asked::OneStep(step) = asked else {
+        return refuse(answers::BAD_LINE);
+    };
     match step {
-        Step::Add(k, amount) => at_station(k, count, station::add(s, amount)),
-        Step::Draw(k, amount) => at_station(k, count, station::draw(s, amount)),
-        Step::Send(from, to) => at_lowest(from, count, station::message_for(s, to), free),
-        Step::Deliver(p) => deliver_at(p, waiting, s),
-        Step::Lose(p) => lose_at(p, waiting),
+        Step::Add(k, amount) => plan_stock(k, count, rules::add_to(x.value, intake, amount)),
+        Step::Draw(k, amount) => plan_stock(k, count, rules::draw_from(x.value, intake, amount)),
+        Step::Send(from, to) => plan_send(from, to, count, x, free),
+        Step::Deliver(p) => plan_deliver(p, waiting, x),
+        Step::Lose(p) => plan_lose(p, waiting),
     }
-}
-
-// What a step will do.
-pub fn plan_for(t: Table, step: Step) -> Plan
-    ensures { λ r. ⌜ r ≡ planOf t step ⌝ }
-{
-    if !table_is_sound(t) {
-        return refuse(answers::NOT_SOUND);
-    }
-    let i = place_looked_at(step);
-    let place = t.pool[i];
-    let waiting = place.waiting;
-    let k = station_looked_at(step, waiting);
-    let s = t.stations[k];
-    let pool = t.pool;
-    let free = lowest_empty(pool);
-    plan_at(answers::DONE, t.count, step, s, waiting, free)
 }

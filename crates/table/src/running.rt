@@ -1,9 +1,204 @@
 // Steps one after the other in one call: as numbers in, what each told as numbers out.
+ghost use mathlib.Core.Path.{_≡_};
+ghost use mathlib.Core.Bool.{true};
+ghost use mathlib.Core.List.{[], _∷_};
+ghost use Prim.Native.Nat.{_+_, _*_, _<_, _≤_, min};
+ghost use lib.ListN.{length};
+ghost use lib.Seq.{sets};
+ghost use Rattle.rules.specs.Limits.{mostStations};
+ghost use Rattle.rules.specs.Report.{rulesOf};
+ghost use Rattle.station.specs.Side.{sideFor, putSide};
+ghost use Rattle.table.specs.Looking.{bareSide};
+ghost use Rattle.table.specs.Running.{askedBy, askedIn, leftBy, toldBy, Runs};
+ghost use Rattle.table.specs.Sound.{tableSound};
+use crate::looking::free_for;
+use crate::looking::place_looked_at;
+use crate::looking::seat_looked_at;
+use crate::planning::Change;
+use crate::planning::plan_at;
+use crate::pool::Place;
+use crate::sound::table_is_sound;
+use crate::steps::Asked;
+use crate::steps::Step;
 use crate::table::Table;
+use crate::taken::flag_of;
+use crate::taken::flags_of;
+use rules::answers;
+use rules::clocks::DestinationClock;
+use rules::clocks::SourceClock;
+use rules::held::HeldSlot;
+use rules::held::HeldToken;
+use rules::report::Report;
+use rules::report::rules_of;
+use rules::side::Side;
+use station::held::SlotCell;
+use station::held::TokenCell;
+use station::station::Station;
 
 // The numbered answer, how many steps were done, and the table as it then is.
 pub struct Ran {
     pub answer: u8,
     pub result: u64,
     pub table: Table,
+}
+
+fn asked_by(kind: u64, a: u64, b: u64) -> Asked
+    ensures { λ r. ⌜ r ≡ askedBy kind a b ⌝ }
+{
+    if kind == 0 {
+        return Asked::OneStep(Step::Add(a, b));
+    }
+    if kind == 1 {
+        return Asked::OneStep(Step::Draw(a, b));
+    }
+    if kind == 2 {
+        return Asked::OneStep(Step::Send(a, b));
+    }
+    if kind == 3 {
+        return Asked::OneStep(Step::Deliver(a));
+    }
+    if kind == 4 {
+        return Asked::OneStep(Step::Lose(a));
+    }
+    Asked::NoStep
+}
+
+// The side of a station that is turned to station j, and a station with that side put anew.
+fn side_to(s: Station, j: usize) -> Side
+    requires { ⌜ j < mostStations ⌝ }
+    ensures { λ r. ⌜ r ≡ sideFor s j ⌝ }
+{
+    let slots = s.slots[j];
+    let slot = slots.held;
+    let tokens = s.tokens[j];
+    let token = tokens.held;
+    let source = s.source;
+    let destination = s.destination;
+    Side {
+        value: s.value,
+        source,
+        destination,
+        slot,
+        token,
+    }
+}
+
+fn with_side(s: Station, j: usize, x: Side) -> Station
+    requires { ⌜ j < mostStations ⌝ }
+    ensures { λ r. ⌜ r ≡ putSide s j x ⌝ }
+{
+    let slot = x.slot;
+    let token = x.token;
+    let source = x.source;
+    let destination = x.destination;
+    let mut next = s;
+    next.value = x.value;
+    next.source = source;
+    next.destination = destination;
+    next.slots[j] = SlotCell { held: slot };
+    next.tokens[j] = TokenCell { held: token };
+    next
+}
+
+fn bare_side(value: u64) -> Side
+    ensures { λ r. ⌜ r ≡ bareSide value ⌝ }
+{
+    Side {
+        value,
+        source: SourceClock(0),
+        destination: DestinationClock(0),
+        slot: HeldSlot::NoSlot,
+        token: HeldToken::NoToken,
+    }
+}
+
+// Five numbers.
+fn put_told(told: &mut [u64], at: usize, answer: u8, result: u64, report: Report)
+    requires { ⌜ at + 5 ≤ length (now told) ⌝ }
+    ensures { λ _. ⌜ now (told .exit) ≡ sets (now (told .entry)) at (answer ∷ result ∷ rulesOf report ∷ report .opened ∷ report .made ∷ []) ⌝ }
+{
+    told[at] = answer as u64;
+    told[at + 1] = result;
+    told[at + 2] = rules_of(report);
+    told[at + 3] = report.opened;
+    told[at + 4] = report.made;
+}
+
+// The loop holds the table: a table is large, and a call copies what it is given. So no call in the loop is given the table, and each step changes its one
+// station or place right here. A station is copied out only where its cells are looked at.
+fn run_sound(t: Table, codes: &[u64], told: &mut [u64], steps: usize) -> Table
+    requires { ⌜ (tableSound t ≡ true) × (3 * steps ≤ length (now codes)) × (5 * steps ≤ length (now told)) ⌝ }
+    ensures { λ r. ⌜ (r ≡ leftBy t (askedIn steps (now (codes .entry)))) × (now (told .exit) ≡ sets (now (told .entry)) 0 (toldBy t (askedIn steps (now (codes .entry))))) ⌝ }
+{
+    let pool = t.pool;
+    let flags = flags_of(pool);
+    let mut taken = flags.taken;
+    let mut table = t;
+    let mut n: usize = 0;
+    while n < steps {
+        let asked = asked_by(codes[3 * n], codes[3 * n + 1], codes[3 * n + 2]);
+        let place = table.pool[place_looked_at(asked)];
+        let waiting = place.waiting;
+        let free = free_for(asked, &taken);
+        let seat = seat_looked_at(asked, waiting, free);
+        let k = seat.station;
+        let j = seat.peer;
+        let x = if seat.cells {
+            side_to(table.stations[k], j)
+        } else {
+            bare_side(table.stations[k].value)
+        };
+        let plan = plan_at(
+            table.count,
+            asked,
+            table.stations[k].intake,
+            x,
+            waiting,
+            free,
+        );
+        let change = plan.change;
+        match change {
+            Change::Nothing => {}
+            Change::AtStock(value, intake) => {
+                table.stations[k].value = value;
+                table.stations[k].intake = intake;
+            }
+            Change::AtSide(side) => {
+                table.stations[k] = with_side(table.stations[k], j, side);
+            }
+            Change::AtPlace(p, w) => {
+                table.pool[p] = Place { waiting: w };
+                taken[p] = flag_of(w);
+            }
+        }
+        let report = plan.report;
+        put_told(told, 5 * n, plan.answer, plan.result, report);
+        n = n + 1;
+    }
+    table
+}
+
+fn smaller(a: usize, b: usize) -> usize
+    ensures { λ r. ⌜ r ≡ min a b ⌝ }
+{
+    if a < b { a } else { b }
+}
+
+// Refused by 1. Each step is refused, or done, as `step` would.
+pub fn run(t: Table, codes: &[u64], told: &mut [u64]) -> Ran
+    ensures { λ r. ⌜ Runs t (now (codes .entry)) (now (told .entry)) r (now (told .exit)) ⌝ }
+{
+    if !table_is_sound(t) {
+        return Ran {
+            answer: answers::NOT_SOUND,
+            result: 0,
+            table: t,
+        };
+    }
+    let steps = smaller(codes.len() / 3, told.len() / 5);
+    Ran {
+        answer: answers::DONE,
+        result: steps as u64,
+        table: run_sound(t, codes, told, steps),
+    }
 }

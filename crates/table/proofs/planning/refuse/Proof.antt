@@ -5,11 +5,8 @@ use Rattle.table.proofs.planning.refuse.Tie as tie
 no-report-requires : tie.Need-no-report-requires
 no-report-requires c κs = search needs
 
-blank-station-requires : tie.Need-blank-station-requires
-blank-station-requires c κs = search needs
-
 returns : tie.Need-returns
-returns c = rw (c .before .no-report .ensures, c .blank-station .ensures)
+returns c = rw (c .no-report .ensures)
 
 pub refuse-spec : {M : Type 1} → statement M
-refuse-spec = tie.close (tie.spec no-report-requires blank-station-requires returns)
+refuse-spec = tie.close (tie.spec no-report-requires returns)

@@ -1,0 +1,274 @@
+use Prim.Native.Nat.{ℕ, _-_, _<_}
+use mathlib.Core.Path.{_≡_, refl, sym, _∙_}
+use mathlib.Core.Logic.{⊎-elim}
+use native.Mathlib.Omega.{arith}
+use borrow.Author.Needs.{needs}
+use denote.Ref.{now}
+use Rattle.table.specs.declared.planning.Change.the-variants.{AtPlace}
+use Rattle.table.specs.declared.pool.Waiting.{Waiting}
+use Rattle.table.specs.Table.{stationAt, waitingAt}
+use Rattle.table.specs.Looking.{sideSeen, flagsOf}
+use Rattle.table.specs.Planning.{changed}
+use Rattle.table.proofs.Flags.{flags-put}
+use Rattle.table.proofs.Looks.{There, place-there, seat-there, place-changed}
+use Rattle.table.proofs.Turns.{Going, set-out, turn, ended, found, stocked}
+use Rattle.table.proofs.running.run_sound.Statement.{statement}
+use Rattle.table.proofs.running.run_sound.Tie as tie
+
+abbrev Inv-loop : tie.InvT-loop
+Inv-loop codes told₀ steps taken₀ table₀ n₀ told taken table n = Going codes told₀ steps table₀ told taken table n
+
+abbrev μ-loop : tie.MeasureT-loop
+μ-loop codes told₀ steps taken₀ table₀ n₀ told taken table n = steps - n
+
+flags-of-requires : tie.Need-flags-of-requires Inv-loop μ-loop
+flags-of-requires c κs = search needs
+
+loop-holds : tie.Need-loop-holds Inv-loop μ-loop
+loop-holds c = set-out (now (c .before .before .before .before .before .args .codes)) (now (c .before .before .before .before .before .args .told)) (c .before .before .before .before .before .args .steps) (c .before .before .before .before .before .args .t) (c .before .before .before .before .before .pre .0) (c .before .flags-of .ensures)
+
+mul-asked-by : tie.Need-mul-asked-by Inv-loop μ-loop
+mul-asked-by c = search needs
+
+mul-asked-by-2 : tie.Need-mul-asked-by-2 Inv-loop μ-loop
+mul-asked-by-2 c = search needs
+
+shared-slice-read-asked-by : tie.Need-shared-slice-read-asked-by Inv-loop μ-loop
+shared-slice-read-asked-by c = search needs
+
+mul-asked-by-3 : tie.Need-mul-asked-by-3 Inv-loop μ-loop
+mul-asked-by-3 c = search needs
+
+add-asked-by : tie.Need-add-asked-by Inv-loop μ-loop
+add-asked-by c = search needs
+
+mul-asked-by-4 : tie.Need-mul-asked-by-4 Inv-loop μ-loop
+mul-asked-by-4 c = search needs
+
+shared-slice-read-asked-by-2 : tie.Need-shared-slice-read-asked-by-2 Inv-loop μ-loop
+shared-slice-read-asked-by-2 c = search needs
+
+mul-asked-by-5 : tie.Need-mul-asked-by-5 Inv-loop μ-loop
+mul-asked-by-5 c = search needs
+
+add-asked-by-2 : tie.Need-add-asked-by-2 Inv-loop μ-loop
+add-asked-by-2 c = search needs
+
+mul-asked-by-6 : tie.Need-mul-asked-by-6 Inv-loop μ-loop
+mul-asked-by-6 c = search needs
+
+shared-slice-read-asked-by-3 : tie.Need-shared-slice-read-asked-by-3 Inv-loop μ-loop
+shared-slice-read-asked-by-3 c = search needs
+
+asked-by-requires : tie.Need-asked-by-requires Inv-loop μ-loop
+asked-by-requires c κs = search needs
+
+place-looked-at-requires : tie.Need-place-looked-at-requires Inv-loop μ-loop
+place-looked-at-requires c κs = search needs
+
+mul-place : tie.Need-mul-place Inv-loop μ-loop
+mul-place c = omega (arith, place-there (c .before .asked-by .result) (c .place-looked-at .ensures))
+
+element-copy-out-place : tie.Need-element-copy-out-place Inv-loop μ-loop
+element-copy-out-place c = omega (arith, place-there (c .before .asked-by .result) (c .place-looked-at .ensures))
+
+free-for-requires : tie.Need-free-for-requires Inv-loop μ-loop
+free-for-requires c κs = search needs
+
+seat-looked-at-requires : tie.Need-seat-looked-at-requires Inv-loop μ-loop
+seat-looked-at-requires c κs = search needs
+
+-- the station and the peer that were looked up are there, and so is a place that the plan changes
+seated : (c : tie.After-seat-looked-at Inv-loop μ-loop) → There (c .seat-looked-at .result)
+seated c = seat-there (c .before .before .before .before .before .asked-by .result) (waitingAt (c .before .before .before .before .before .before .before .before .before .before .loop .table) (c .before .before .before .before .place-looked-at .result)) (c .before .free-for .result) (c .seat-looked-at .ensures)
+
+pooled : (c : tie.After-plan-at Inv-loop μ-loop) {p : ℕ} {v : Waiting} → c .plan-at .result .change ≡ AtPlace p v → p < 64
+pooled c e =
+    let t = c .before .before .before .before .before .before .before .before .before .before .before .before .loop .table in
+    place-changed (t .count) (c .before .before .before .before .before .before .before .asked-by .result) (stationAt t (c .before .before .seat-looked-at .result .station) .intake) (c .before .if1 .x)
+    (waitingAt t (c .before .before .before .before .before .before .place-looked-at .result)) (c .before .before .before .free-for .result) (c .plan-at .ensures) e
+
+mul-side-to : tie.Need-mul-side-to Inv-loop μ-loop
+mul-side-to c = omega (arith, seated (c .before) .station)
+
+element-copy-out-side-to : tie.Need-element-copy-out-side-to Inv-loop μ-loop
+element-copy-out-side-to c = omega (arith, seated (c .before) .station)
+
+side-to-requires : tie.Need-side-to-requires Inv-loop μ-loop
+side-to-requires c κs = seated (c .before .before) .peer
+
+mul-bare-side : tie.Need-mul-bare-side Inv-loop μ-loop
+mul-bare-side c = omega (arith, seated (c .before) .station)
+
+element-copy-out-bare-side : tie.Need-element-copy-out-bare-side Inv-loop μ-loop
+element-copy-out-bare-side c = omega (arith, seated (c .before) .station)
+
+bare-side-requires : tie.Need-bare-side-requires Inv-loop μ-loop
+bare-side-requires c κs = search needs
+
+mul-plan-at : tie.Need-mul-plan-at Inv-loop μ-loop
+mul-plan-at c = omega (arith, seated (c .before) .station)
+
+element-copy-out-plan-at : tie.Need-element-copy-out-plan-at Inv-loop μ-loop
+element-copy-out-plan-at c = omega (arith, seated (c .before) .station)
+
+plan-at-requires : tie.Need-plan-at-requires Inv-loop μ-loop
+plan-at-requires c κs = search needs
+
+enum-told : tie.Need-enum-told Inv-loop μ-loop
+enum-told c = search needs
+
+enum-known-change : tie.Need-enum-known-change Inv-loop μ-loop
+enum-known-change c = search needs
+
+mul-table : tie.Need-mul-table Inv-loop μ-loop
+mul-table c = omega (arith, seated (c .before .before .before .before .before) .station)
+
+way-write-given-table : tie.Need-way-write-given-table Inv-loop μ-loop
+way-write-given-table c = let h = seated (c .before .before .before .before .before) .station in search needs
+
+mul-table-2 : tie.Need-mul-table-2 Inv-loop μ-loop
+mul-table-2 c = search needs
+
+way-write-given-table-2 : tie.Need-way-write-given-table-2 Inv-loop μ-loop
+way-write-given-table-2 c = search needs
+
+enum-known-change-2 : tie.Need-enum-known-change-2 Inv-loop μ-loop
+enum-known-change-2 c = search needs
+
+mul-with-side : tie.Need-mul-with-side Inv-loop μ-loop
+mul-with-side c = omega (arith, seated (c .before .before .before .before .before) .station)
+
+element-copy-out-with-side : tie.Need-element-copy-out-with-side Inv-loop μ-loop
+element-copy-out-with-side c = omega (arith, seated (c .before .before .before .before .before) .station)
+
+with-side-requires : tie.Need-with-side-requires Inv-loop μ-loop
+with-side-requires c κs = seated (c .before .before .before .before .before .before) .peer
+
+mul-t66 : tie.Need-mul-t66 Inv-loop μ-loop
+mul-t66 c = omega (arith, seated (c .before .before .before .before .before .before .before) .station)
+
+element-set-from-table : tie.Need-element-set-from-table Inv-loop μ-loop
+element-set-from-table c = omega (arith, seated (c .before .before .before .before .before .before .before) .station)
+
+enum-known-change-3 : tie.Need-enum-known-change-3 Inv-loop μ-loop
+enum-known-change-3 c = search needs
+
+mul-t70 : tie.Need-mul-t70 Inv-loop μ-loop
+mul-t70 c = omega (arith, pooled (c .before .before .before) (c .before .change3 .given .1))
+
+element-set-from-table-2 : tie.Need-element-set-from-table-2 Inv-loop μ-loop
+element-set-from-table-2 c = omega (arith, pooled (c .before .before .before) (c .before .change3 .given .1))
+
+flag-of-requires : tie.Need-flag-of-requires Inv-loop μ-loop
+flag-of-requires c κs = search needs
+
+array-write-taken : tie.Need-array-write-taken Inv-loop μ-loop
+array-write-taken c = omega (arith, pooled (c .before .before .before .before) (c .before .before .change3 .given .1))
+
+mul-put-told : tie.Need-mul-put-told Inv-loop μ-loop
+mul-put-told c = omega (arith, c .before .before .before .before .before .before .before .before .before .before .before .before .before .before .loop-test .taken, c .before .before .before .before .before .before .before .before .before .before .before .before .before .before .before .before .before .before .before .before .before .pre .2, c .before .before .before .before .before .before .before .before .before .before .before .before .before .before .before .before .before .before .before .before .before .good .1 .1 .0 .0)
+
+put-told-requires : tie.Need-put-told-requires Inv-loop μ-loop
+put-told-requires c κs = omega (arith, c .before .before .before .before .before .before .before .before .before .before .before .before .before .before .loop-test .taken, c .before .before .before .before .before .before .before .before .before .before .before .before .before .before .before .loop .inv .room, c .before .before .before .before .before .before .before .before .before .before .before .before .before .before .before .before .before .before .before .before .before .pre .2)
+
+add-n : tie.Need-add-n Inv-loop μ-loop
+add-n c = omega (arith, c .before .before .before .before .before .before .before .before .before .before .before .before .before .before .before .before .before .loop-test .taken, c .before .before .before .before .before .before .before .before .before .before .before .before .before .before .before .before .before .before .before .before .before .before .before .before .fits .steps)
+
+loop-less : tie.Need-loop-less Inv-loop μ-loop
+loop-less c = omega (arith, c .before .before .before .before .before .before .before .before .before .before .before .before .before .before .before .before .before .loop-test .taken)
+
+-- the side that was looked up
+seen : (c : tie.Joined1 Inv-loop μ-loop) → c .if1 .x ≡ sideSeen (c .before .seat-looked-at .result) (stationAt (c .before .before .before .before .before .before .before .before .before .before .before .loop .table) (c .before .seat-looked-at .result .station))
+seen c = ⊎-elim (λ z. z .3 ∙ z .2 .ensures ∙ rw (z .0 .taken)) (λ z. z .2 ∙ z .1 .ensures ∙ rw (z .0 .left)) (c .if1 .came)
+
+-- what the plan changes was changed
+stored : (c : tie.At-match-came Inv-loop μ-loop)
+    → c .match .table ≡ changed (c .before .before .before .before .before .before .before .before .before .before .before .before .before .loop .table) (c .before .before .before .seat-looked-at .result .station) (c .before .before .before .seat-looked-at .result .peer) (c .before .plan-at .result .change)
+stored c =
+    ⊎-elim (λ z. z .3 ∙ rw (z .1 .given .1))
+    (⊎-elim (λ z. z .6 ∙ rw (z .1 .given .1) (stocked (c .before .before .before .before .before .before .before .before .before .before .before .before .before .loop .table) (c .before .before .before .seat-looked-at .result .station) _ _))
+    (⊎-elim (λ z. z .6 ∙ rw (z .1 .given .1, z .4 .ensures)) (λ z. z .5 ∙ rw (z .1 .given .1))))
+    (c .match .came)
+
+flagged : (c : tie.At-match-came Inv-loop μ-loop) → c .match .taken ≡ flagsOf (c .match .table .pool)
+flagged c =
+    let flags = c .before .before .before .before .before .before .before .before .before .before .before .before .before .loop .inv .flags in
+    ⊎-elim (λ z. rw (z .2, z .3) flags)
+    (⊎-elim (λ z. rw (z .5, z .6) flags)
+    (⊎-elim (λ z. rw (z .5, z .6) flags) (λ z. rw (z .4, z .5, z .3 .ensures, flags) (sym (flags-put (c .before .before .before .before .before .before .before .before .before .before .before .before .before .loop .table .pool) _ _)))))
+    (c .match .came)
+
+loop-again : tie.Need-loop-again Inv-loop μ-loop
+loop-again c =
+    let at = c .before .before .before .before .before .before .before .before .before .before .before .before .before .before .before .before .before .before .loop in
+    let plan = c .before .before .before .before .before .before .plan-at in
+    let step =
+    found (at .table) (c .before .before .before .before .before .before .before .before .before .before .before .before .before .asked-by .result) (plan .result) (at .inv .sound) (at .inv .flags) (c .before .before .before .before .before .before .before .before .before .before .before .before .place-looked-at .ensures) (c .before .before .before .before .before .before .before .before .before .free-for .ensures)
+    (c .before .before .before .before .before .before .before .before .seat-looked-at .ensures) (seen (c .before .before .before .before .before .before .before)) (plan .ensures) (stored (c .before .before .before .before .before)) in
+    turn (at .inv) _ (c .before .before .before .before .before .before .before .before .before .before .before .before .before .before .before .before .before .loop-test .taken) (c .before .before .before .before .before .before .before .before .before .before .before .before .before .asked-by .ensures) step (c .before .before .put-told .ensures) (flagged (c .before .before .before .before .before))
+
+same-length : tie.Need-same-length Inv-loop μ-loop
+same-length c = search needs
+
+returns : tie.Need-returns Inv-loop μ-loop
+returns c = ended (c .before .loop .inv) (c .loop-test .left)
+
+pub run-sound-spec : {M : Type 1} → statement M
+run-sound-spec =
+    tie.close
+    (tie.spec
+    Inv-loop
+    μ-loop
+    flags-of-requires
+    loop-holds
+    mul-asked-by
+    mul-asked-by-2
+    shared-slice-read-asked-by
+    mul-asked-by-3
+    add-asked-by
+    mul-asked-by-4
+    shared-slice-read-asked-by-2
+    mul-asked-by-5
+    add-asked-by-2
+    mul-asked-by-6
+    shared-slice-read-asked-by-3
+    asked-by-requires
+    place-looked-at-requires
+    mul-place
+    element-copy-out-place
+    free-for-requires
+    seat-looked-at-requires
+    mul-side-to
+    element-copy-out-side-to
+    side-to-requires
+    mul-bare-side
+    element-copy-out-bare-side
+    bare-side-requires
+    mul-plan-at
+    element-copy-out-plan-at
+    plan-at-requires
+    enum-told
+    enum-known-change
+    mul-table
+    way-write-given-table
+    mul-table-2
+    way-write-given-table-2
+    enum-known-change-2
+    mul-with-side
+    element-copy-out-with-side
+    with-side-requires
+    mul-t66
+    element-set-from-table
+    enum-known-change-3
+    mul-t70
+    element-set-from-table-2
+    flag-of-requires
+    array-write-taken
+    mul-put-told
+    put-told-requires
+    add-n
+    loop-less
+    loop-again
+    same-length
+    returns)

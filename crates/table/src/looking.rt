@@ -1,0 +1,89 @@
+// What of a table a step looks at. An index that is too large is looked up as 0: the step is then refused, whatever stands there.
+ghost use mathlib.Core.Path.{_≡_};
+ghost use Rattle.table.specs.Table.{below, mostPlaces};
+ghost use Rattle.table.specs.Looking.{placeLookedAt, lookedAt, endsOf, seatLookedAt, freeFor};
+use crate::pool::Waiting;
+use crate::steps::Asked;
+use crate::steps::Step;
+use crate::taken::lowest_empty;
+
+// A station, a peer of it, and whether what the one holds for the other is looked at.
+pub struct Looked {
+    pub station: usize,
+    pub peer: usize,
+    pub cells: bool,
+}
+
+fn index_below(n: u64, limit: usize) -> usize
+    ensures { λ r. ⌜ r ≡ below n limit ⌝ }
+{
+    if n < limit as u64 { n as usize } else { 0 }
+}
+
+fn look(station: u64, peer: u64, cells: bool) -> Looked
+    ensures { λ r. ⌜ r ≡ lookedAt station peer cells ⌝ }
+{
+    Looked {
+        station: index_below(station, 16),
+        peer: index_below(peer, 16),
+        cells,
+    }
+}
+
+// The ends of the message that waits.
+fn ends_of(waiting: Waiting) -> Looked
+    ensures { λ r. ⌜ r ≡ endsOf waiting ⌝ }
+{
+    let Waiting::One(m) = waiting else {
+        return look(0, 0, false);
+    };
+    look(m.to as u64, m.from as u64, true)
+}
+
+// The place that a step looks at.
+pub(crate) fn place_looked_at(asked: Asked) -> usize
+    ensures { λ r. ⌜ r ≡ below (placeLookedAt asked) mostPlaces ⌝ }
+{
+    let Asked::OneStep(step) = asked else {
+        return 0;
+    };
+    match step {
+        Step::Add(_, _) => 0,
+        Step::Draw(_, _) => 0,
+        Step::Send(_, _) => 0,
+        Step::Deliver(p) => index_below(p, 64),
+        Step::Lose(p) => index_below(p, 64),
+    }
+}
+
+// The station and the peer that a step looks at, for what waits at the place that it looks at, and the lowest-numbered empty place.
+pub(crate) fn seat_looked_at(asked: Asked, waiting: Waiting, free: usize) -> Looked
+    ensures { λ r. ⌜ r ≡ seatLookedAt asked waiting free ⌝ }
+{
+    let Asked::OneStep(step) = asked else {
+        return look(0, 0, false);
+    };
+    match step {
+        Step::Add(k, _) => look(k, 0, false),
+        Step::Draw(k, _) => look(k, 0, false),
+        Step::Send(from, to) => look(from, to, free < 64),
+        Step::Deliver(_) => ends_of(waiting),
+        Step::Lose(_) => look(0, 0, false),
+    }
+}
+
+// Only a send has the lowest-numbered empty place searched.
+pub(crate) fn free_for(asked: Asked, taken: &[u8; 64]) -> usize
+    ensures { λ r. ⌜ r ≡ freeFor asked (now (taken .entry)) ⌝ }
+{
+    let Asked::OneStep(step) = asked else {
+        return 64;
+    };
+    match step {
+        Step::Add(_, _) => 64,
+        Step::Draw(_, _) => 64,
+        Step::Send(_, _) => lowest_empty(taken),
+        Step::Deliver(_) => 64,
+        Step::Lose(_) => 64,
+    }
+}
