@@ -55,14 +55,26 @@ writtenBy answer bytes before = record { told = plainTold (written answer bytes 
 unfoldable pub freshBy : ℕ → ℕ → List ℕ → Given
 freshBy number count before = outcomeBy (freshOf number count) before
 
+abbrev pub Makes : ℕ → ℕ → List ℕ → Told → List ℕ → Type 0
+Makes number count before r later = Gives (freshBy number count before) r later
+
 unfoldable pub addBy : ℕ → List ℕ → Given
 addBy amount before = stepBy (addOf (stationOf before) amount) before
+
+abbrev pub Adds : List ℕ → ℕ → Told → List ℕ → Type 0
+Adds before amount r later = Gives (addBy amount before) r later
 
 unfoldable pub drawBy : ℕ → List ℕ → Given
 drawBy amount before = stepBy (drawOf (stationOf before) amount) before
 
+abbrev pub Draws : List ℕ → ℕ → Told → List ℕ → Type 0
+Draws before amount r later = Gives (drawBy amount before) r later
+
 unfoldable pub receiveBy : List ℕ → List ℕ → Given
 receiveBy bytes before = stepBy (receiveBytesOf (stationOf before) bytes) before
+
+abbrev pub Receives : List ℕ → List ℕ → Told → List ℕ → Type 0
+Receives before bytes r later = Gives (receiveBy bytes before) r later
 
 -- a station writes its message for another; its numbers are only read
 unfoldable pub showBy : List ℕ → ℕ → List ℕ → Given
@@ -71,6 +83,9 @@ showBy numbers to before =
     (writtenBy (writeForAnswer (stationOf numbers) to (length before)) (bytesOf (messageFor (stationOf numbers) to)) before)
     (refusedBy notSound before)
 
+abbrev pub Shows : List ℕ → ℕ → List ℕ → Told → List ℕ → Type 0
+Shows numbers to before r later = Gives (showBy numbers to before) r later
+
 -- a record is read into a message's numbers
 abbrev pub readingBy : Reading → List ℕ → Given
 readingBy r before = record { told = plainTold (r .answer) (r .result); lent = kept (r .answer) before (messageNumbers (r .message)) }
@@ -78,7 +93,13 @@ readingBy r before = record { told = plainTold (r .answer) (r .result); lent = k
 unfoldable pub readBy : List ℕ → List ℕ → Given
 readBy bytes before = readingBy (readOf bytes) before
 
+abbrev pub Reads : List ℕ → List ℕ → Told → List ℕ → Type 0
+Reads bytes before r later = Gives (readBy bytes before) r later
+
 -- a message's numbers are written as a record; numbers that are no message are not sound
 unfoldable pub writeBy : List ℕ → List ℕ → Given
 writeBy numbers before =
     cond (messageFits numbers) (writtenBy (writeAnswer (messageOf numbers) (length before)) (bytesOf (messageOf numbers)) before) (refusedBy noRecord before)
+
+abbrev pub WritesNumbers : List ℕ → List ℕ → Told → List ℕ → Type 0
+WritesNumbers numbers before r later = Gives (writeBy numbers before) r later

@@ -1,5 +1,5 @@
 // What C and Rust call. The numbers that are lent are copied, the work is done on the copy, and what comes of it is stored in one step.
-ghost use Rattle.quynhabet.specs.Exports.{Gives, freshBy, addBy, drawBy, showBy, receiveBy, readBy, writeBy};
+ghost use Rattle.quynhabet.specs.Exports.{Makes, Adds, Draws, Shows, Receives, Reads, WritesNumbers};
 use crate::messages::message_fits;
 use crate::messages::message_of;
 use crate::moving::add_by;
@@ -17,7 +17,7 @@ use rules::answers::NOT_SOUND;
 // Makes a station with nothing in it: refused by 1, 2.
 #[no_mangle]
 pub extern "C" fn qb_station_fresh(number: u64, count: u64, station: &mut [u64; 134]) -> Told
-    ensures { λ r. ⌜ Gives (freshBy number count (now (station .entry))) r (now (station .exit)) ⌝ }
+    ensures { λ r. ⌜ Makes number count (now (station .entry)) r (now (station .exit)) ⌝ }
 {
     let numbers = *station;
     let moved = fresh_by(number, count, numbers);
@@ -29,7 +29,7 @@ pub extern "C" fn qb_station_fresh(number: u64, count: u64, station: &mut [u64; 
 // Raises value and intake: refused by 1, 4, 5, 10.
 #[no_mangle]
 pub extern "C" fn qb_station_add(station: &mut [u64; 134], amount: u64) -> Told
-    ensures { λ r. ⌜ Gives (addBy amount (now (station .entry))) r (now (station .exit)) ⌝ }
+    ensures { λ r. ⌜ Adds (now (station .entry)) amount r (now (station .exit)) ⌝ }
 {
     let numbers = *station;
     let moved = add_by(amount, numbers);
@@ -41,7 +41,7 @@ pub extern "C" fn qb_station_add(station: &mut [u64; 134], amount: u64) -> Told
 // Takes the smaller of the value and the amount: refused by 1, 4.
 #[no_mangle]
 pub extern "C" fn qb_station_draw(station: &mut [u64; 134], amount: u64) -> Told
-    ensures { λ r. ⌜ Gives (drawBy amount (now (station .entry))) r (now (station .exit)) ⌝ }
+    ensures { λ r. ⌜ Draws (now (station .entry)) amount r (now (station .exit)) ⌝ }
 {
     let numbers = *station;
     let moved = draw_by(amount, numbers);
@@ -53,7 +53,7 @@ pub extern "C" fn qb_station_draw(station: &mut [u64; 134], amount: u64) -> Told
 // Writes the station's message for another station as a record: refused by 1, 2, 3, 14.
 #[no_mangle]
 pub extern "C" fn qb_station_write(station: &[u64; 134], to: u64, out: &mut [u8]) -> Told
-    ensures { λ r. ⌜ Gives (showBy (now (station .entry)) to (now (out .entry))) r (now (out .exit)) ⌝ }
+    ensures { λ r. ⌜ Shows (now (station .entry)) to (now (out .entry)) r (now (out .exit)) ⌝ }
 {
     let numbers = *station;
     if !station_fits(numbers) {
@@ -66,7 +66,7 @@ pub extern "C" fn qb_station_write(station: &[u64; 134], to: u64, out: &mut [u8]
 // Lets the station take a record: refused by 1, 9, 2, 11, 10.
 #[no_mangle]
 pub extern "C" fn qb_station_receive(station: &mut [u64; 134], bytes: &[u8]) -> Told
-    ensures { λ r. ⌜ Gives (receiveBy (now (bytes .entry)) (now (station .entry))) r (now (station .exit)) ⌝ }
+    ensures { λ r. ⌜ Receives (now (station .entry)) (now (bytes .entry)) r (now (station .exit)) ⌝ }
 {
     let numbers = *station;
     let moved = receive_by(bytes, numbers);
@@ -78,7 +78,7 @@ pub extern "C" fn qb_station_receive(station: &mut [u64; 134], bytes: &[u8]) -> 
 // Reads a record into a message: refused by 9.
 #[no_mangle]
 pub extern "C" fn qb_record_read(bytes: &[u8], message: &mut [u64; 13]) -> Told
-    ensures { λ r. ⌜ Gives (readBy (now (bytes .entry)) (now (message .entry))) r (now (message .exit)) ⌝ }
+    ensures { λ r. ⌜ Reads (now (bytes .entry)) (now (message .entry)) r (now (message .exit)) ⌝ }
 {
     let numbers = *message;
     let taken = read_by(bytes, numbers);
@@ -90,7 +90,7 @@ pub extern "C" fn qb_record_read(bytes: &[u8], message: &mut [u64; 13]) -> Told
 // Writes a message as a record: refused by 9, 14.
 #[no_mangle]
 pub extern "C" fn qb_record_write(message: &[u64; 13], out: &mut [u8]) -> Told
-    ensures { λ r. ⌜ Gives (writeBy (now (message .entry)) (now (out .entry))) r (now (out .exit)) ⌝ }
+    ensures { λ r. ⌜ WritesNumbers (now (message .entry)) (now (out .entry)) r (now (out .exit)) ⌝ }
 {
     let numbers = *message;
     if !message_fits(numbers) {

@@ -1,16 +1,20 @@
 -- The refusals of receiving bytes, in their order: 1, then 9 where the bytes are no record, then those of receiving the message. Assumes nothing.
-use mathlib.Core.Path.{_≡_, refl}
+use mathlib.Core.Path.{_≡_, refl, ap, _∙_}
 use mathlib.Core.List.{List}
-use mathlib.Core.Bool.{true, false}
+use mathlib.Core.Bool.{true, false, and-false}
 use Prim.Native.Nat.{ℕ}
 use Rattle.station.specs.declared.station.Station.{Station}
 use Rattle.rules.specs.Answers.{notSound, noRecord}
+use Rattle.rules.specs.Refusals.{answerOf}
+use Rattle.rules.proofs.Below.{needed, by-test}
+use Rattle.station.specs.declared.outcome.Outcome.{Outcome}
 use Rattle.station.specs.Outcome.{refused}
-use Rattle.station.specs.Sound.{stationSound}
+use Rattle.station.specs.Sound.{stationSound, messageSound}
 use Rattle.station.specs.Steps.{receiveOf}
+use Rattle.station.proofs.Answering.{receive-tells}
 use Rattle.station.proofs.Keeps.{empty-unsound}
-use Rattle.record.specs.Reading.{messageAt, isRecord, readAt}
-use Rattle.record.specs.AtStation.{receiveBytesOf}
+use Rattle.record.specs.Reading.{messageAt, isRecord, readAt, readOf, readRefusals}
+use Rattle.record.specs.AtStation.{receiveBytesOf, receiveBytesRefusals}
 
 module _ (s : Station) (bytes : List ℕ) where
   pub unsound-first : stationSound s ≡ false → receiveBytesOf s bytes ≡ refused notSound s
@@ -24,3 +28,21 @@ module _ (s : Station) (bytes : List ℕ) where
   pub then-received : isRecord bytes 0 ≡ true → receiveBytesOf s bytes ≡ receiveOf s (messageAt bytes 0)
   unfolding receiveBytesOf readAt
   then-received f = rw f
+
+-- reading tells 9 exactly where the bytes are no record
+pub read-tells : (bytes : List ℕ) → readOf bytes .answer ≡ answerOf (readRefusals bytes)
+unfolding readAt
+read-tells bytes = by-test (isRecord bytes 0) (λ e. rw e) (λ e. rw e)
+
+record-sound : (bytes : List ℕ) → isRecord bytes 0 ≡ true → messageSound (messageAt bytes 0) ≡ true
+unfolding isRecord
+record-sound bytes e = needed (messageSound (messageAt bytes 0)) (λ f. simp (f, and-false) at e)
+
+-- receiving bytes answers by its list
+pub receive-bytes-tells : (s : Station) (bytes : List ℕ) → receiveBytesOf s bytes .answer ≡ answerOf (receiveBytesRefusals s bytes)
+receive-bytes-tells s bytes =
+    by-test (isRecord bytes 0)
+    (λ f. ap (λ (o : Outcome). o .answer) (then-received s bytes f) ∙ receive-tells s (messageAt bytes 0) ∙ rw (f, record-sound bytes f))
+    (λ f.
+    by-test (stationSound s) (λ e. ap (λ (o : Outcome). o .answer) (no-record-next s bytes e f) ∙ rw (e, f))
+    (λ e. ap (λ (o : Outcome). o .answer) (unsound-first s bytes e) ∙ rw e))

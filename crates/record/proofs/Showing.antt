@@ -1,33 +1,40 @@
 -- Writing the message that a station shows. Assumes nothing.
 use Prim.Native.Nat.{ℕ, zero, suc}
-use mathlib.Core.Path.{_≡_, refl, ap, _∙_}
+use mathlib.Core.Path.{_≡_, refl, ap, sym, subst}
 use mathlib.Core.List.{List}
+use lib.ListN.{length}
+use borrow.Author.Tests.{lt-ltb, ne-eqb}
+use Rattle.rules.proofs.Refusing.{answer-before}
 use Rattle.station.specs.declared.station.Station.{Station}
-use Rattle.rules.specs.declared.message.Message.{Message}
-use Rattle.station.specs.declared.message.Shown.{Shown}
-use Rattle.rules.specs.Refusals.{orElse}
-use Rattle.station.specs.Steps.{showAnswer, showing, showOf, messageFor}
+use Rattle.station.specs.Steps.{showRefusals, showAnswer, showing, showOf, messageFor}
+use Rattle.station.proofs.Answering.{shown}
 use Rattle.station.proofs.Keeps.{message-sound}
-use Rattle.record.specs.Writing.{Writes, writeAnswer}
-use Rattle.record.specs.AtStation.{writeForAnswer}
-
-answer-shown : (n : ℕ) (m : Message) → showing n m .answer ≡ n
-answer-shown zero m = refl
-answer-shown (suc n) m = refl
-
-pub show-answers : (s : Station) (to : ℕ) → showOf s to .answer ≡ showAnswer s to
-unfolding showOf
-show-answers s to = answer-shown (showAnswer s to) (messageFor s to)
+use Rattle.record.specs.Layout.{bytesOf}
+use Rattle.record.specs.Writing.{written, Writes, writeAnswer}
+use Rattle.record.specs.AtStation.{roomRefusals, writeForAnswer, WritesFor}
 
 pub shows : (s : Station) (to : ℕ) → showAnswer s to ≡ 0 → showOf s to .message ≡ messageFor s to
 unfolding showOf
 shows s to e = ap (λ (n : ℕ). showing n (messageFor s to) .message) e
 
+refusing : (n : ℕ) (bytes before : List ℕ) → (n ≡ 0 → ⊥) → Writes n bytes before (record { answer = n; result = 0 }) before
+refusing zero bytes before f = absurd (f refl)
+refusing (suc n) bytes before f = record { told = refl; buffer = refl }
+
 -- where nothing is shown, nothing is written
-pub writes-nothing : (n later : ℕ) (bytes before : List ℕ) → (n ≡ 0 → ⊥) → Writes (orElse n later) bytes before (record { answer = n; result = 0 }) before
-writes-nothing zero later bytes before f = absurd (f refl)
-writes-nothing (suc n) later bytes before f = record { told = refl; buffer = refl }
+pub writes-nothing : (s : Station) (to : ℕ) (before : List ℕ) → (showAnswer s to ≡ 0 → ⊥)
+    → WritesFor s to before (record { answer = showAnswer s to; result = 0 }) before
+writes-nothing s to before f =
+    subst (λ (n : ℕ). Writes n (bytesOf (messageFor s to)) before (record { answer = showAnswer s to; result = 0 }) before)
+    (sym (answer-before (showRefusals s to) (roomRefusals s to (length before)) f)) (refusing (showAnswer s to) (bytesOf (messageFor s to)) before f)
 
 -- what is shown is sound, so writing it is refused by 14 alone
 pub writes-shown : (s : Station) (to room : ℕ) → showAnswer s to ≡ 0 → writeAnswer (messageFor s to) room ≡ writeForAnswer s to room
-writes-shown s to room e = rw (message-sound s to e, e)
+writes-shown s to room e =
+    let p = shown s to e in
+    rw (message-sound s to e, p .sound, lt-ltb to (s .count) (p .below), ne-eqb to (s .number) (p .other))
+
+-- what is told of a writing is the answer that was found
+pub written-tells : (n : ℕ) (bytes : List ℕ) → written n bytes .answer ≡ n
+written-tells zero bytes = refl
+written-tells (suc n) bytes = refl

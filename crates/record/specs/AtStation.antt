@@ -1,20 +1,42 @@
 -- One station on bytes.
 use Prim.Native.Nat.{ℕ}
-use mathlib.Core.List.{List}
-use lib.Dec.{ltb}
+use mathlib.Core.Bool.{not}
+use mathlib.Core.List.{List, [], _∷_, _++_}
+use lib.Dec.{ltb, eqb}
 use lib.ListN.{length}
+use Rattle.rules.specs.Answers.{notSound, notBelowCount, noRecord, forAnother, shortBuffer}
+use Rattle.rules.specs.Refusals.{Refusal, when, answerOf}
 use Rattle.station.specs.declared.station.Station.{Station}
 use Rattle.station.specs.declared.outcome.Outcome.{Outcome}
-use Rattle.rules.specs.Answers.{done, shortBuffer}
-use Rattle.rules.specs.Refusals.{first, orElse}
-use Rattle.station.specs.Steps.{showAnswer, messageFor, receiveOf}
+use Rattle.station.specs.Sound.{stationSound}
+use Rattle.station.specs.Steps.{showRefusals, messageFor, endsBelow, fillRefusals, receiveOf}
+use Rattle.record.specs.declared.writing.Written.{Written}
 use Rattle.record.specs.Layout.{bytesOf}
-use Rattle.record.specs.Reading.{readOf}
+use Rattle.record.specs.Reading.{messageAt, isRecord, readOf}
+use Rattle.record.specs.Writing.{Writes}
 
 -- what is written is the message that the station shows (1, 2, 3); 14 where the buffer is shorter than its record
+abbrev pub roomRefusals : Station → ℕ → ℕ → List Refusal
+roomRefusals s to room = when (ltb room (length (bytesOf (messageFor s to)))) shortBuffer ∷ []
+
+abbrev pub writeForRefusals : Station → ℕ → ℕ → List Refusal
+writeForRefusals s to room = showRefusals s to ++ roomRefusals s to room
+
 abbrev pub writeForAnswer : Station → ℕ → ℕ → ℕ
-writeForAnswer s to room = orElse (showAnswer s to) (first (ltb room (length (bytesOf (messageFor s to)))) shortBuffer done)
+writeForAnswer s to room = answerOf (writeForRefusals s to room)
+
+abbrev pub WritesFor : Station → ℕ → List ℕ → Written → List ℕ → Type 0
+WritesFor s to before r after = Writes (writeForAnswer s to (length before)) (bytesOf (messageFor s to)) before r after
 
 -- receiving bytes is reading them and then receiving that message
 unfoldable pub receiveBytesOf : Station → List ℕ → Outcome
 receiveBytesOf s bytes = receiveOf s (readOf bytes .message)
+
+-- so it is refused by 1, by 9 where the bytes are no record, and by what receiving their message is refused by
+abbrev pub receiveBytesRefusals : Station → List ℕ → List Refusal
+receiveBytesRefusals s bytes =
+    when (not (stationSound s)) notSound
+    ∷ when (not (isRecord bytes 0)) noRecord
+    ∷ when (not (endsBelow s (messageAt bytes 0))) notBelowCount
+    ∷ when (not (eqb (messageAt bytes 0 .to) (s .number))) forAnother
+    ∷ fillRefusals s (messageAt bytes 0)

@@ -1,7 +1,7 @@
 -- A record read field by field, front to back.
 use Prim.Native.Nat.{ℕ, _+_, _-_}
-use mathlib.Core.List.{List}
-use mathlib.Core.Bool.{Bool, cond, _&&_}
+use mathlib.Core.List.{List, [], _∷_}
+use mathlib.Core.Bool.{Bool, not, cond, _&&_}
 use lib.Dec.{leb, eqb}
 use lib.ListN.{length}
 use Rattle.rules.specs.declared.clocks.SourceClock.{SourceClock}
@@ -14,6 +14,7 @@ use Rattle.rules.specs.declared.message.Message.{Message}
 use Rattle.rules.specs.Answers.{done, noRecord}
 use Rattle.station.specs.Sound.{messageSound}
 use Rattle.rules.specs.Message.{noMessage}
+use Rattle.rules.specs.Refusals.{Refusal, when}
 use Rattle.record.specs.declared.reading.Reading.{Reading}
 use Rattle.record.specs.Numbers.{numberAt}
 
@@ -78,3 +79,7 @@ readAt bytes at = cond (isRecord bytes at) (record { answer = done; result = end
 
 abbrev pub readOf : List ℕ → Reading
 readOf bytes = readAt bytes 0
+
+-- 9 where the bytes are no record
+abbrev pub readRefusals : List ℕ → List Refusal
+readRefusals bytes = when (not (isRecord bytes 0)) noRecord ∷ []

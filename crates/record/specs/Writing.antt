@@ -1,14 +1,14 @@
 -- A message written into a lent buffer.
 use Prim.Native.Nat.{ℕ, zero, suc}
 use mathlib.Core.Path.{_≡_}
-use mathlib.Core.List.{List, _++_}
+use mathlib.Core.List.{List, [], _∷_, _++_}
 use mathlib.Core.Bool.{not}
 use lib.Dec.{ltb}
 use lib.ListN.{length, drop}
 use Rattle.rules.specs.declared.message.Message.{Message}
 use Rattle.rules.specs.Answers.{done, noRecord, shortBuffer}
 use Rattle.station.specs.Sound.{messageSound}
-use Rattle.rules.specs.Refusals.{first}
+use Rattle.rules.specs.Refusals.{Refusal, when, answerOf}
 use Rattle.record.specs.declared.writing.Written.{Written}
 use Rattle.record.specs.Layout.{bytesOf}
 
@@ -28,5 +28,11 @@ pub record Writes (answer : ℕ) (bytes before : List ℕ) (r : Written) (after 
   pub buffer : after ≡ left answer bytes before
 
 -- a given message: 9 where it is not sound, 14 where the buffer is shorter than its record
+abbrev pub writeRefusals : Message → ℕ → List Refusal
+writeRefusals m room = when (not (messageSound m)) noRecord ∷ when (ltb room (length (bytesOf m))) shortBuffer ∷ []
+
 abbrev pub writeAnswer : Message → ℕ → ℕ
-writeAnswer m room = first (not (messageSound m)) noRecord (first (ltb room (length (bytesOf m))) shortBuffer done)
+writeAnswer m room = answerOf (writeRefusals m room)
+
+abbrev pub WritesGiven : Message → List ℕ → Written → List ℕ → Type 0
+WritesGiven m before r after = Writes (writeAnswer m (length before)) (bytesOf m) before r after

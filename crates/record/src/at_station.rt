@@ -1,10 +1,6 @@
 // One station on bytes: its message for another station written, a record received.
 ghost use mathlib.Core.Path.{_≡_};
-ghost use lib.ListN.{length};
-ghost use Rattle.station.specs.Steps.{messageFor};
-ghost use Rattle.record.specs.Layout.{bytesOf};
-ghost use Rattle.record.specs.Writing.{Writes};
-ghost use Rattle.record.specs.AtStation.{writeForAnswer, receiveBytesOf};
+ghost use Rattle.record.specs.AtStation.{WritesFor, receiveBytesOf};
 use crate::reading::read;
 use crate::writing::Written;
 use crate::writing::write;
@@ -14,7 +10,7 @@ use station::station::Station;
 
 // Writes a station's message for another station: refused by 1, 2, 3, 14.
 pub fn write_message(s: Station, to: u64, buffer: &mut [u8]) -> Written
-    ensures { λ r. ⌜ Writes (writeForAnswer s to (length (now (buffer .entry)))) (bytesOf (messageFor s to)) (now (buffer .entry)) r (now (buffer .exit)) ⌝ }
+    ensures { λ r. ⌜ WritesFor s to (now (buffer .entry)) r (now (buffer .exit)) ⌝ }
 {
     let shown = station::message_for(s, to);
     let answer = shown.answer;

@@ -4,7 +4,7 @@ ghost use Prim.Native.Nat.{_+_, _≤_};
 ghost use lib.ListN.{length};
 ghost use lib.Seq.{sets};
 ghost use Rattle.record.specs.Layout.{front, bytesOf, slotField, tokenField};
-ghost use Rattle.record.specs.Writing.{Writes, writeAnswer};
+ghost use Rattle.record.specs.Writing.{WritesGiven};
 use crate::putting::put_clocks_field;
 use crate::putting::put_field;
 use crate::putting::put_slot;
@@ -75,7 +75,7 @@ fn put_record(buffer: &mut [u8], m: Message)
 
 // A given message: refused by 9 where it is not sound, by 14 where the buffer is shorter than its record.
 pub fn write(m: Message, buffer: &mut [u8]) -> Written
-    ensures { λ r. ⌜ Writes (writeAnswer m (length (now (buffer .entry)))) (bytesOf m) (now (buffer .entry)) r (now (buffer .exit)) ⌝ }
+    ensures { λ r. ⌜ WritesGiven m (now (buffer .entry)) r (now (buffer .exit)) ⌝ }
 {
     if !message_is_sound(m) {
         return Written {

@@ -22,6 +22,11 @@ pub needed : (t : Bool) → (t ≡ false → false ≡ true) → t ≡ true
 needed true f = refl
 needed false f = f refl
 
+-- what follows from a test, and from its failing
+pub by-test : (t : Bool) {A : Type 0} → (t ≡ true → A) → (t ≡ false → A) → A
+by-test true f g = f refl
+by-test false f g = g refl
+
 -- both parts of a test that holds
 pub both-hold : (a b : Bool) → (a && b) ≡ true → (a ≡ true) × (b ≡ true)
 both-hold true b e = (refl, e)

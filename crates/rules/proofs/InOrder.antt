@@ -1,4 +1,5 @@
 -- The five rules one after the other. Assumes nothing.
+use Prim.Native.Nat.{ℕ}
 use mathlib.Core.Path.{_≡_, refl}
 use mathlib.Core.Bool.{Bool, true, false, cond}
 use lib.Dec.{ltb}
@@ -7,7 +8,8 @@ use Rattle.rules.specs.declared.held.HeldSlot.the-variants.{NoSlot, OneS
 use Rattle.rules.specs.declared.message.Message.{Message}
 use Rattle.rules.specs.declared.side.Side.{Side}
 use Rattle.rules.specs.declared.rules.Ruled.{Ruled}
-use Rattle.rules.specs.Rules.{fill, dropSlot, dropSlotBy, openSlot, dropToken, makeToken}
+use Rattle.rules.specs.Half.{halfAbove}
+use Rattle.rules.specs.Rules.{fill, dropSlot, dropSlotBy, openSlotBy, dropTokenBy, makeToken}
 use Rattle.rules.specs.Taking.{reported, takeOf}
 
 -- what holds of both ways of a choice, each under its test
@@ -23,7 +25,8 @@ drop-slot-value-by x m (OneSlot l) = chosen (λ (r : Ruled). r .side .value ≡ 
 pub drop-slot-value : (x : Side) (m : Message) → dropSlot x m .side .value ≡ x .value
 drop-slot-value x m = drop-slot-value-by x m (x .slot)
 
-pub taken : (x : Side) (m : Message) (one two three four five : Ruled) → one ≡ fill x m → two ≡ dropSlot (one .side) m → three ≡ openSlot (two .side) m
-    → four ≡ dropToken (three .side) m → five ≡ makeToken (four .side) m → reported one two three four five ≡ takeOf x m
+pub taken : (x : Side) (m : Message) (one two three four five : Ruled) {h : ℕ} → one ≡ fill x m → two ≡ dropSlot (one .side) m
+    → h ≡ halfAbove (m .value) (two .side .value) → three ≡ openSlotBy (two .side) m h (two .side .slot)
+    → four ≡ dropTokenBy (three .side) m (three .side .token) (m .slot) → five ≡ makeToken (four .side) m → reported one two three four five ≡ takeOf x m
 unfolding takeOf
-taken x m one two three four five e1 e2 e3 e4 e5 = cc
+taken x m one two three four five e1 e2 eh e3 e4 e5 = cc

@@ -2,7 +2,8 @@
 use Prim.Native.Nat.{ℕ, zero, suc, _+_, _≤_}
 use mathlib.Core.Path.{_≡_, refl, sym}
 use mathlib.Core.Bool.{Bool, true, false, cond, not}
-use mathlib.Core.List.{List, [], _∷_, _++_}
+use mathlib.Core.Logic.{⊎-elim}
+use mathlib.Core.List.{List, [], _∷_, _++_, List·Memᴰ, List·Memᴰ·head, List·Memᴰ·tail, List·Memᴰ·cases-cons}
 use native.Mathlib.Omega.{arith}
 use lib.Dec.{ltb, leb}
 use borrow.Author.Tests.{leb-true, ltb-false, not-false}
@@ -13,17 +14,27 @@ use Rattle.rules.specs.declared.side.Side.{Side}
 use Rattle.rules.specs.declared.stock.Stock.{Stock}
 use Rattle.rules.specs.declared.taking.Taken.{Taken}
 use Rattle.rules.specs.Limits.{mostAmount, mostIntake, mostValue}
+use Rattle.rules.specs.Answers.{done}
 use Rattle.rules.specs.Report.{noReport}
-use Rattle.rules.specs.Refusals.{Refusal, first, answerOf}
+use Rattle.rules.specs.Refusals.{Refusal, first, answerOf, numbersIn}
 use Rattle.rules.specs.Rules.{fill}
-use Rattle.rules.specs.Taking.{tokenSmall, messageSmall, tokenFits, takeOf, takeAnswer, takenBy, takenOf, Takes}
-use Rattle.rules.specs.Stock.{stockSound, amountSound, addToAnswer, stocked}
+use Rattle.rules.specs.Taking.{tokenSmall, messageSmall, tokenFits, takeOf, takeRefusals, takeAnswer, takenBy, takenOf, Takes}
+use Rattle.rules.specs.Stock.{stockSound, amountSound, stocked, addToRefusals, addToAnswer, addDone, addedTo, drawFromRefusals, drawFromAnswer, drawDone, drawnFrom}
 use Rattle.rules.proofs.Below.{both-hold}
 
 -- an answer of 0 has passed its first test
 pub passed : (t : Bool) (n : ℕ) {later : ℕ} → first t (suc n) later ≡ 0 → (t ≡ false) × (later ≡ 0)
 passed false n e = (refl, e)
 passed true n e = absurd (omega arith)
+
+-- the answer is 0 or one of the numbers
+among-by : (t : Bool) (n : ℕ) {later : ℕ} {ns : List ℕ} → List·Memᴰ later (done ∷ ns) → List·Memᴰ (cond t n later) (done ∷ n ∷ ns)
+among-by true n m = List·Memᴰ·tail (List·Memᴰ·head refl)
+among-by false n m = ⊎-elim (λ e. List·Memᴰ·head e) (λ l. List·Memᴰ·tail (List·Memᴰ·tail l)) (List·Memᴰ·cases-cons m)
+
+pub answer-among : (rs : List Refusal) → List·Memᴰ (answerOf rs) (done ∷ numbersIn rs)
+answer-among [] = List·Memᴰ·head refl
+answer-among (r ∷ rs) = among-by (r .condition) (r .number) (answer-among rs)
 
 -- what is refused by the first of some conditions is refused by those with more after them
 refused-before : (t : Bool) (n : ℕ) {a b : ℕ} → ((b ≡ 0 → ⊥) → a ≡ b) → (cond t n b ≡ 0 → ⊥) → cond t n a ≡ cond t n b
@@ -44,6 +55,19 @@ pub stock-refused : (n value intake : ℕ) (d : Stock) → (n ≡ 0 → ⊥) →
 stock-refused zero value intake d f = absurd (f refl)
 stock-refused (suc n) value intake d f = refl
 
+stock-answer : (n value intake : ℕ) (d : Stock) → d .answer ≡ 0 → stocked n value intake d .answer ≡ n
+stock-answer zero value intake d e = e
+stock-answer (suc n) value intake d e = refl
+
+-- an add and a draw tell the answer that was found
+pub add-to-tells : (value intake amount : ℕ) → addedTo value intake amount .answer ≡ answerOf (addToRefusals value intake amount)
+unfolding addedTo
+add-to-tells value intake amount = stock-answer (addToAnswer value intake amount) value intake (addDone value intake amount) refl
+
+pub draw-from-tells : (value intake amount : ℕ) → drawnFrom value intake amount .answer ≡ answerOf (drawFromRefusals value intake amount)
+unfolding drawnFrom
+draw-from-tells value intake amount = stock-answer (drawFromAnswer value intake amount) value intake (drawDone value intake amount) refl
+
 pub taken-done : {n : ℕ} (x : Side) (t : Taken) → n ≡ 0 → t ≡ takenBy n x t
 taken-done x t e = rw e
 
@@ -56,7 +80,7 @@ taken-answer zero x t e = e
 taken-answer (suc n) x t e = refl
 
 -- what was taken tells the answer that was found
-pub take-tells : (x : Side) (m : Message) → takenOf x m .answer ≡ takeAnswer x m
+pub take-tells : (x : Side) (m : Message) → takenOf x m .answer ≡ answerOf (takeRefusals x m)
 unfolding takenOf takeOf
 take-tells x m = taken-answer (takeAnswer x m) x (takeOf x m) refl
 

@@ -10,6 +10,7 @@ use borrow.Author.Tests.{ltb-true}
 use mir.Syntax.{w64}
 use mir.Val.{SFits, Fits}
 use Rattle.rules.specs.Limits.{mostValue}
+use Rattle.rules.proofs.Below.{by-test}
 use Rattle.rules.specs.Half.{halfOf, halfAbove}
 
 pub half-of-negative : (d : ℤ) → ltZ d (pos 0) ≡ true → _≡_ {A = ℕ} 0 (halfOf d)
@@ -28,10 +29,6 @@ half-of-rest (pos n) f e =
     let h : n < 9223372036854775808 = f .sfits in
     record { fits = record { sfits = omega arith }; sign = tt; small = record { fits = omega arith }; is = refl }
 half-of-rest (negsuc n) f e = let z : _≡_ {A = ℕ} 0 1 = cc in absurd (omega arith)
-
-by-test : (t : Bool) {A : Type 0} → (t ≡ true → A) → (t ≡ false → A) → A
-by-test true f g = f refl
-by-test false f g = g refl
 
 pub difference-fits : (a b : ℕ) → a ≤ mostValue → b ≤ mostValue → SFits w64 (pos a -ℤ pos b)
 difference-fits a zero ha hb = record { sfits = omega arith }

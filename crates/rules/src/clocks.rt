@@ -3,7 +3,7 @@ ghost use mathlib.Core.Path.{_≡_};
 ghost use Prim.Native.Nat.{_<_};
 ghost use lib.Dec.{ltb, eqb};
 ghost use Rattle.rules.specs.Limits.{lastClock};
-ghost use Rattle.rules.specs.Clocks.{clockSound, sourceNext, destinationNext};
+ghost use Rattle.rules.specs.Clocks.{sourceInRange, destinationInRange, sourceAbove, destinationAbove, sourceNext, destinationNext};
 
 // The last number that a clock shows.
 pub const LAST: u32 = 4294967295;
@@ -17,24 +17,24 @@ pub struct DestinationClock(pub u32);
 impl SourceClock {
     // True of every such clock, since its type has no other number.
     pub fn in_range(self) -> bool
-        ensures { λ r. ⌜ r ≡ clockSound (self .0) ⌝ }
+        ensures { λ r. ⌜ r ≡ sourceInRange self ⌝ }
     {
         self.0 <= LAST
     }
 
     pub fn is_above(self, other: SourceClock) -> bool
-        ensures { λ r. ⌜ r ≡ ltb (other .0) (self .0) ⌝ }
+        ensures { λ r. ⌜ r ≡ sourceAbove self other ⌝ }
     {
         other.0 < self.0
     }
 
-    pub fn equals(self, other: SourceClock) -> bool
+    pub(crate) fn equals(self, other: SourceClock) -> bool
         ensures { λ r. ⌜ r ≡ eqb (self .0) (other .0) ⌝ }
     {
         self.0 == other.0
     }
 
-    pub fn before_end(self) -> bool
+    pub(crate) fn before_end(self) -> bool
         ensures { λ r. ⌜ r ≡ ltb (self .0) lastClock ⌝ }
     {
         self.0 < LAST
@@ -51,24 +51,24 @@ impl SourceClock {
 impl DestinationClock {
     // True of every such clock, since its type has no other number.
     pub fn in_range(self) -> bool
-        ensures { λ r. ⌜ r ≡ clockSound (self .0) ⌝ }
+        ensures { λ r. ⌜ r ≡ destinationInRange self ⌝ }
     {
         self.0 <= LAST
     }
 
     pub fn is_above(self, other: DestinationClock) -> bool
-        ensures { λ r. ⌜ r ≡ ltb (other .0) (self .0) ⌝ }
+        ensures { λ r. ⌜ r ≡ destinationAbove self other ⌝ }
     {
         other.0 < self.0
     }
 
-    pub fn equals(self, other: DestinationClock) -> bool
+    pub(crate) fn equals(self, other: DestinationClock) -> bool
         ensures { λ r. ⌜ r ≡ eqb (self .0) (other .0) ⌝ }
     {
         self.0 == other.0
     }
 
-    pub fn before_end(self) -> bool
+    pub(crate) fn before_end(self) -> bool
         ensures { λ r. ⌜ r ≡ ltb (self .0) lastClock ⌝ }
     {
         self.0 < LAST

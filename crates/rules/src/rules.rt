@@ -2,9 +2,8 @@
 ghost use mathlib.Core.Path.{_≡_};
 ghost use Prim.Native.Nat.{_+_, _≤_, _<_, min};
 ghost use Rattle.rules.specs.Limits.{mostValue};
-ghost use Rattle.rules.specs.Rules.{acts, rests, agree, fill, dropSlot, openSlot, dropToken, makeToken};
+ghost use Rattle.rules.specs.Rules.{acts, rests, agree, fill, dropSlot, openSlotBy, dropTokenBy, makeToken};
 ghost use Rattle.rules.specs.Taking.{tokenFits};
-use crate::half::half_above;
 use crate::held::HeldSlot;
 use crate::held::HeldToken;
 use crate::held::Slot;
@@ -104,15 +103,14 @@ pub(crate) fn rule2_drop_slot(x: Side, m: Message) -> Ruled
     acts_with(0, dropped)
 }
 
-pub(crate) fn rule3_open_slot(x: Side, m: Message) -> Ruled
-    requires { ⌜ (x .value ≤ mostValue) × (m .value ≤ mostValue) ⌝ }
-    ensures { λ r. ⌜ r ≡ openSlot x m ⌝ }
+// h is half of what the sender has more.
+pub(crate) fn rule3_open_slot(x: Side, m: Message, h: u64) -> Ruled
+    ensures { λ r. ⌜ r ≡ openSlotBy x m h (x .slot) ⌝ }
 {
     let held = x.slot;
     let HeldSlot::NoSlot = held else {
         return rests_at(x);
     };
-    let h = half_above(m.value, x.value);
     let destination = x.destination;
     if !((1 <= h) & destination.before_end()) {
         return rests_at(x);
@@ -136,15 +134,15 @@ pub(crate) fn rule3_open_slot(x: Side, m: Message) -> Ruled
     acts_with(h, opened)
 }
 
-pub(crate) fn rule4_drop_token(x: Side, m: Message) -> Ruled
-    ensures { λ r. ⌜ r ≡ dropToken x m ⌝ }
+// shown is the slot that the message shows.
+pub(crate) fn rule4_drop_token(x: Side, m: Message, shown: HeldSlot) -> Ruled
+    ensures { λ r. ⌜ r ≡ dropTokenBy x m (x .token) shown ⌝ }
 {
     let held = x.token;
-    let open = m.slot;
     let HeldToken::OneToken(token) = held else {
         return rests_at(x);
     };
-    let HeldSlot::NoSlot = open else {
+    let HeldSlot::NoSlot = shown else {
         return rests_at(x);
     };
     let theirs = m.destination;

@@ -2,6 +2,8 @@
 ghost use mathlib.Core.Path.{_≡_};
 ghost use Rattle.rules.specs.Taking.{tokenSmall, takeAnswer, takeOf, takenOf, Takes};
 use crate::answers;
+use crate::half::half_above;
+use crate::held::HeldSlot;
 use crate::held::HeldToken;
 use crate::limits::MOST_VALUE;
 use crate::message::Message;
@@ -58,9 +60,11 @@ fn five_rules(x: Side, m: Message) -> Taken
     let first = one.side;
     let two = rule2_drop_slot(first, m);
     let second = two.side;
-    let three = rule3_open_slot(second, m);
+    let h = half_above(m.value, second.value);
+    let three = rule3_open_slot(second, m, h);
     let third = three.side;
-    let four = rule4_drop_token(third, m);
+    let shown = m.slot;
+    let four = rule4_drop_token(third, m, shown);
     let fourth = four.side;
     let five = rule5_make_token(fourth, m);
     let last = five.side;

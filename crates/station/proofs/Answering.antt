@@ -1,5 +1,5 @@
 -- Answers looked for in order, and what follows where the answer is 0. Assumes nothing.
-use Prim.Native.Nat.{ℕ, zero, suc, _+_, _<_, _≤_}
+use Prim.Native.Nat.{ℕ, zero, suc, _+_, _-_, _<_, _≤_, min}
 use mathlib.Core.Path.{_≡_, refl}
 use mathlib.Core.Bool.{true, not}
 use lib.Dec.{ltb, eqb}
@@ -7,8 +7,11 @@ use borrow.Author.Tests.{ltb-true, ltb-false, not-false, eqb-true, eqb-false}
 use Rattle.rules.specs.declared.message.Message.{Message}
 use Rattle.rules.specs.Limits.{mostIntake, mostValue}
 use Rattle.rules.specs.Message.{noMessage}
+use Rattle.rules.specs.Report.{noReport}
+use Rattle.rules.specs.Refusals.{answerOf}
 use Rattle.rules.specs.Stock.{amountSound}
 use Rattle.rules.specs.Rules.{fill}
+use Rattle.rules.specs.Taking.{takeOf}
 use Rattle.rules.proofs.Below.{both-hold}
 use Rattle.rules.proofs.Refusing.{passed}
 use Rattle.station.specs.declared.station.Station.{Station}
@@ -16,7 +19,10 @@ use Rattle.station.specs.declared.outcome.Outcome.{Outcome}
 use Rattle.station.specs.Side.{sideFor}
 use Rattle.station.specs.Sound.{stationSound, messageSound}
 use Rattle.station.specs.Outcome.{refused, answered}
-use Rattle.station.specs.Steps.{showing, addAnswer, drawAnswer, showAnswer, endsBelow, meetAnswer, receiveAnswer}
+use Rattle.station.specs.Steps.{told, blank, putStock, messageFor, showing, endsBelow, received as take-in}
+use Rattle.station.specs.Steps.{freshRefusals, addRefusals, drawRefusals, showRefusals, receiveRefusals}
+use Rattle.station.specs.Steps.{freshAnswer, addAnswer, drawAnswer, showAnswer, meetAnswer, receiveAnswer}
+use Rattle.station.specs.Steps.{freshOf, addOf, drawOf, showOf, receiveOf}
 
 pub when-done : {n : ℕ} (s : Station) (d : Outcome) → n ≡ 0 → d ≡ answered n s d
 when-done s d e = rw e
@@ -109,3 +115,29 @@ received s m e =
 pub answer-told : (n : ℕ) (s : Station) (d : Outcome) → d .answer ≡ 0 → answered n s d .answer ≡ n
 answer-told zero s d e = e
 answer-told (suc n) s d e = refl
+
+pub fresh-tells : (number count : ℕ) → freshOf number count .answer ≡ answerOf (freshRefusals number count)
+unfolding freshOf
+fresh-tells number count = answer-told (freshAnswer number count) (blank 0 0) (told 0 noReport (blank number count)) refl
+
+pub add-tells : (s : Station) (amount : ℕ) → addOf s amount .answer ≡ answerOf (addRefusals s amount)
+unfolding addOf
+add-tells s amount = answer-told (addAnswer s amount) s (told (s .value + amount) noReport (putStock s (s .value + amount) (s .intake + amount))) refl
+
+pub draw-tells : (s : Station) (amount : ℕ) → drawOf s amount .answer ≡ answerOf (drawRefusals s amount)
+unfolding drawOf
+draw-tells s amount =
+    let taken = min (s .value) amount in
+    answer-told (drawAnswer s amount) s (told taken noReport (putStock s (s .value - taken) (s .intake))) refl
+
+pub receive-tells : (s : Station) (m : Message) → receiveOf s m .answer ≡ answerOf (receiveRefusals s m)
+unfolding receiveOf
+receive-tells s m = answer-told (receiveAnswer s m) s (take-in s m (takeOf (sideFor s (m .from)) m)) refl
+
+shown-answer : (n : ℕ) (m : Message) → showing n m .answer ≡ n
+shown-answer zero m = refl
+shown-answer (suc n) m = refl
+
+pub show-tells : (s : Station) (to : ℕ) → showOf s to .answer ≡ answerOf (showRefusals s to)
+unfolding showOf
+show-tells s to = shown-answer (showAnswer s to) (messageFor s to)
