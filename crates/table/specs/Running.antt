@@ -44,6 +44,15 @@ abbrev pub askedStep : Table → Asked → Stepped
 askedStep t NoStep = record { answer = badLine; result = 0; report = noReport; table = t }
 askedStep t (OneStep step) = stepOf t step
 
+-- what names no step is refused before anything is looked up for it, whatever step stands in its place
+abbrev pub standInAnswer : Asked → ℕ
+standInAnswer NoStep = badLine
+standInAnswer (OneStep step) = done
+
+abbrev pub standIn : Asked → Step
+standIn NoStep = Lose 0
+standIn (OneStep step) = step
+
 -- the answer, the result, the rules that acted as a sum of 1, 2, 4, 8, 16, the quantity of a slot opened and that of a token made
 abbrev pub tells : Stepped → List ℕ
 tells s = s .answer ∷ s .result ∷ rulesOf (s .report) ∷ s .report .opened ∷ s .report .made ∷ []

@@ -12,6 +12,7 @@ pub mod way;
 
 pub use fresh::fresh_table;
 pub use planning::plan_for;
+pub use running::run;
 pub use stepping::step;
 pub use way::at_stations;
 pub use way::on_the_way;
