@@ -14,4 +14,5 @@ pub mod Runs
 pub mod Starts
 pub mod Refused
 pub mod Whole
+pub mod Loops
 pub mod Samples
