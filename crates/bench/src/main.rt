@@ -3,6 +3,7 @@ ghost use mathlib.Core.Path.{_≡_};
 ghost use lib.ListN.{length};
 use libc::STDIN_FILENO;
 use libc::STDOUT_FILENO;
+use script::starting::Run;
 
 // One byte more than the longest script, so that a longer one is seen.
 fn in_buffer() -> [u8; 65537]
@@ -24,19 +25,28 @@ fn write_first(bytes: &[u8], size: usize) {
     }
 }
 
-// Piece by piece until all is put. Each piece but the last takes at least one line of the script, so there are fewer than its bytes.
-fn write_output(input: &[u8], out: &mut [u8]) {
-    let mut run = script::start(input, out);
-    write_first(out, run.size);
+// Turn after turn until the run is finished. There are turns enough for the longest script.
+fn write_turns(input: &[u8], first: Run, out: &mut [u8]) {
+    let mut run = first;
     let mut turns: usize = 0;
-    while turns < 65537 {
-        if run.finished {
-            return;
-        }
-        run = script::fill(input, run, out);
-        write_first(out, run.size);
+    while (turns < 65537) & !run.finished {
+        let filled = script::fill(input, run, out);
+        write_first(out, filled.result as usize);
+        run = filled.run;
         turns = turns + 1;
     }
+}
+
+// The line of a script that is refused, and else all that its run puts.
+fn write_output(input: &[u8], out: &mut [u8]) {
+    let started = script::start(input);
+    if started.answer != 0 {
+        let put = script::put_answer(started.answer, out);
+        write_first(out, put.result as usize);
+        return;
+    }
+    let run = started.run;
+    write_turns(input, run, out);
 }
 
 fn main() {

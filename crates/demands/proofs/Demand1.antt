@@ -1,10 +1,9 @@
 -- Demand 1 holds: every refusal has result 0, an empty report, and leaves what was lent. Assumes nothing.
 use Prim.Native.Nat.{ℕ, zero, suc}
-use mathlib.Core.Path.{_≡_, refl, sym, _∙_}
+use mathlib.Core.Path.{_≡_, refl, sym}
 use mathlib.Core.Bool.{Bool, true, false, cond}
 use mathlib.Core.List.{List}
 use mathlib.Core.Logic.{_≢_}
-use lib.Dec.{ltb}
 use lib.ListN.{length}
 use Rattle.rules.specs.declared.message.Message.{Message}
 use Rattle.station.specs.declared.outcome.Outcome.{Outcome}
@@ -39,15 +38,7 @@ use Rattle.table.specs.Fresh.{seatsTo, freshOf as freshTableOf}
 use Rattle.table.specs.Lent.{told, left, sendInAnswer, loseInAnswer}
 use Rattle.table.specs.Steps.{planned, stationAnswer, lowestAnswer, placeAnswer, deliverBy, loseBy, planWith, planAt, planBy, tableAnswer, planOf, applied, stepOf}
 use Rattle.table.specs.Way.{onTheWay, atStations}
-use Rattle.script.specs.declared.lines.Line.{Line}
-use Rattle.script.specs.declared.lines.Line.the-variants.{NoStep, OneStep}
-use Rattle.script.specs.declared.words.Numeral.{Numeral}
-use Rattle.script.specs.declared.words.Numeral.the-variants.{Unreadable, Reads}
-use Rattle.script.specs.Decimal.{says}
-use Rattle.script.specs.Lines.{lineOf, stationsOf}
-use Rattle.script.specs.Running.{lineAt, notOpened, openBy, openOf, pastLine, printedBy, advanceOf}
-use Rattle.script.specs.Script.{mostBytes, lineStep}
-use Rattle.script.proofs.Runs.{start-refused, output-opened}
+use Rattle.script.proofs.Refused.{answer-refused, fill-refused, start-refused}
 use Rattle.demands.specs.Demand1.{noStation, noTable, RefusedAs, RefusedAsTable, RefusedPlan, RefusedSum, Refused, RefusedNumbers, Demand1}
 
 -- one station: an answer that is not 0 makes a refusal of any outcome
@@ -144,23 +135,8 @@ in-pool : (n result : ℕ) (pool changed : List Place) → let r = told n result
 in-pool zero result pool changed f = absurd (f refl)
 in-pool (suc n) result pool changed f = (refl, refl)
 
--- a script
-opens : (long : Bool) (first : Numeral) (at : ℕ) → let r = cond long (notOpened 13) (openBy first at) in r .answer ≢ done → (r .table ≡ noTable) × (r .at ≡ 0)
-unfolding seatsTo
-opens true first at f = (refl, refl)
-opens false Unreadable at f = (refl, refl)
-opens false (Reads count) at f = (makes count f .2, start-refused (freshTableOf count .answer) at f)
-
-lines : (t : Table) (line : Line) → let r = lineStep t line in Refused (r .answer) (r .result) t (r .table)
-lines t NoStep f = (refl, refl)
-lines t (OneStep step) f = let r = steps t step f in (r .0, r .2)
-
-one-line : (script : List ℕ) (n : ℕ) (t : Table) (at : ℕ) → n ≢ done → printedBy script n t at ≡ says 0 n 0
-one-line script zero t at f = absurd (f refl)
-one-line script (suc n) t at f = refl
-
 pub demand1 : Demand1
-unfolding freshOf addOf drawOf receiveOf receiveBytesOf showOf readAt openOf advanceOf freshBy addBy drawBy showBy receiveBy readBy writeBy
+unfolding freshOf addOf drawOf receiveOf receiveBytesOf showOf readAt seatsTo freshBy addBy drawBy showBy receiveBy readBy writeBy
 demand1 =
     record {
       fresh = λ number count. at-station (freshAnswer number count) noStation _ refl;
@@ -204,10 +180,7 @@ demand1 =
       lose-in = λ pool p. in-pool (loseInAnswer pool p) _ pool _;
       send-value = λ pool m r e. rw e (in-pool (sendInAnswer pool) _ pool _);
       lose-value = λ pool p r e. rw e (in-pool (loseInAnswer pool p) _ pool _);
-      «open» = λ script. opens (ltb mostBytes (length script)) (stationsOf (lineAt script 0)) (pastLine script 0);
-      advance = λ script t at. lines t (lineOf (lineAt script at));
-      start =
-          λ script run bytes s room f.
-          let o = openOf script in
-          s .says room ∙ output-opened script ∙ one-line script (o .answer) (o .table) (o .at) f;
+      start = start-refused;
+      put-answer = λ answer before r after p. answer-refused answer before p;
+      fill = λ script run before r after p. fill-refused script run before p;
     }

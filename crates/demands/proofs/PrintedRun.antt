@@ -6,26 +6,27 @@ use mathlib.Core.List.{List, [], _∷_, _++_, append-assoc}
 use borrow.Author.Tests.{le-ltb}
 use lib.ListN.{length}
 use Rattle.rules.specs.Answers.{badLine}
+use Rattle.table.specs.declared.steps.Asked.{Asked}
+use Rattle.table.specs.declared.steps.Asked.the-variants.{NoStep, OneStep}
 use Rattle.table.specs.declared.table.Table.{Table}
 use Rattle.table.specs.Fresh.{freshOf}
+use Rattle.table.specs.Running.{askedStep}
 use Rattle.table.specs.Steps.{stepOf}
-use Rattle.script.specs.declared.lines.Line.{Line}
-use Rattle.script.specs.declared.lines.Line.the-variants.{NoStep, OneStep}
 use Rattle.script.specs.Words.{upTo, past}
 use Rattle.script.specs.Lines.{lineOf}
 use Rattle.script.specs.Decimal.{says}
-use Rattle.script.specs.Script.{mostBytes, lineStep, closing, runFrom, outputOf}
+use Rattle.script.specs.Script.{mostBytes, closing, runFrom, outputOf}
 use Rattle.runs.specs.Runs.{logOf, tableAfter}
 use Rattle.runs.proofs.Demand3.{demand3}
 use Rattle.demands.specs.PrintedRun.{linesIn, stepsAmong, said, linesOf, Starts, PrintedRun}
 
 -- what is said of lines from a table on, and its closing
-abbrev told : ℕ → Table → List Line → List ℕ
+abbrev told : ℕ → Table → List Asked → List ℕ
 told n t lines = said n lines (logOf stepOf t (stepsAmong lines)) ++ closing (tableAfter stepOf t (stepsAmong lines))
 
 -- a line is said first, and then the others, from the table that it leaves
-line-told : (line : Line) (n : ℕ) (t : Table) (lines : List Line)
-    → let s = lineStep t line in says n (s .answer) (s .result) ++ told (n + 1) (s .table) lines ≡ told n t (line ∷ lines)
+line-told : (line : Asked) (n : ℕ) (t : Table) (lines : List Asked)
+    → let s = askedStep t line in says n (s .answer) (s .result) ++ told (n + 1) (s .table) lines ≡ told n t (line ∷ lines)
 unfolding stepsAmong said logOf tableAfter
 line-told NoStep n t lines = sym (append-assoc (says n badLine 0) _ _)
 line-told (OneStep step) n t lines = let s = stepOf t step in sym (append-assoc (says n (s .answer) (s .result)) _ _)
@@ -37,7 +38,7 @@ run-told (suc most) n t [] = refl
 run-told (suc most) n t (b ∷ bs) =
     let rest = b ∷ bs in
     let line = lineOf (upTo 10 rest) in
-    let s = lineStep t line in
+    let s = askedStep t line in
     ap (λ (more : List ℕ). says n (s .answer) (s .result) ++ more) (run-told most (n + 1) (s .table) (past 10 rest))
     ∙ line-told line n t (linesIn most (past 10 rest))
 

@@ -4,6 +4,11 @@ use mathlib.Core.Path.{_≡_, sym, _∙_}
 use mathlib.Core.List.{List}
 use Rattle.record.specs.Writing.{Writes, written, left}
 use Rattle.quynhabet.specs.Exports.{Given, Gives}
+use lib.ListN.{length}
+use lib.Seq.{sets}
+use Rattle.script.specs.declared.starting.Run.{Run}
+use Rattle.script.specs.Filling.{filledBy, Fills, turnOf}
+use Rattle.script.specs.Starting.{answerPut, PutsAnswer, putOf}
 use Rattle.demands.specs.Settled.{Settles, SettlesBoth, Settled}
 
 given : {A : Type 0} (d : A) → Settles (λ r. r ≡ d)
@@ -20,6 +25,14 @@ writing answer bytes before x y p q = pair x y (given (written answer bytes) _ _
 
 giving : (g : Given) → SettlesBoth (Gives g)
 giving g x y p q = pair x y (given (g .told) _ _ (p .told) (q .told)) (given (g .lent) _ _ (p .lent) (q .lent))
+
+putting : (answer : ℕ) (out : List ℕ) → SettlesBoth (PutsAnswer answer out)
+putting answer out x y p q = pair x y (given (putOf answer out) _ _ (p .put) (q .put)) (given (sets out 0 (answerPut answer out)) _ _ (p .lent) (q .lent))
+
+filling : (script : List ℕ) (run : Run) (out : List ℕ) → SettlesBoth (Fills script run out)
+filling script run out x y p q =
+    let turn = turnOf script run (length out) in
+    pair x y (given (filledBy turn) _ _ (p .filled) (q .filled)) (given (sets out 0 (turn .bytes)) _ _ (p .lent) (q .lent))
 
 pub settled : Settled
 settled =
@@ -63,6 +76,7 @@ settled =
       lose-in = λ pool p. given-both _ _;
       send-value = λ pool m. given _;
       lose-value = λ pool p. given _;
-      «open» = λ script. given _;
-      advance = λ script t at. given _;
+      start = λ script. given _;
+      put-answer = λ answer before. putting answer before;
+      fill = λ script run before. filling script run before;
     }

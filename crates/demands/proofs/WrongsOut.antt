@@ -7,6 +7,7 @@ use Rattle.station.specs.Steps.{addOf, drawOf, showOf, receiveOf}
 use Rattle.table.specs.Table.{firstFrom}
 use Rattle.table.specs.Sound.{tableSound}
 use Rattle.table.specs.Fresh.{seatsTo, freshOf}
+use Rattle.table.specs.Running.{leftBy}
 use Rattle.table.specs.Steps.{planAt, planOf, stepOf}
 use Rattle.measure.specs.Steps.{lastResult}
 use Rattle.station.specs.Steps.{freshOf as freshStation}
@@ -20,7 +21,12 @@ use Rattle.handshake.specs.Sums.{sumBelow}
 use Rattle.demands.specs.Wrong.{ruledOut}
 use Rattle.script.specs.Words.{numeralOf}
 use Rattle.script.specs.Lines.{lineOf, stationsOf}
-use Rattle.script.specs.Running.{openOf, advanceOf}
+use Rattle.script.specs.Decimal.{digitsBy}
+use Rattle.script.specs.Script.{stationLines}
+use Rattle.script.specs.Reading.{linesFrom, pastLines}
+use Rattle.script.specs.Telling.{saidFor}
+use Rattle.script.specs.Starting.{startedOf}
+use Rattle.script.specs.Filling.{turnOf}
 use Rattle.demands.specs.WrongTables.{wrongTables}
 use Rattle.demands.specs.WrongScripts.{wrongScripts}
 use Rattle.demands.specs.WrongParts.{wrongParts}
@@ -31,7 +37,7 @@ unfolding addOf drawOf showOf receiveOf takeOf stationSound messageSound allBelo
 wrong-tables-ruled-out = tt
 
 pub wrong-scripts-ruled-out : T (ruledOut wrongScripts)
-unfolding openOf advanceOf lineOf stationsOf numeralOf addOf drawOf showOf receiveOf takeOf stationSound messageSound allBelow firstFrom tableSound seatsTo freshOf planOf stepOf
+unfolding startedOf turnOf linesFrom pastLines saidFor leftBy stationLines digitsBy sumBelow lineOf stationsOf numeralOf addOf drawOf showOf receiveOf takeOf stationSound messageSound allBelow firstFrom tableSound seatsTo freshOf planOf stepOf
 wrong-scripts-ruled-out = tt
 
 pub wrong-parts-ruled-out : T (ruledOut wrongParts)

@@ -6,11 +6,12 @@
 -- Not listed: `blank_station`, `no_message`, `no_report`. They make what they are told to, and refuse nothing.
 -- Not listed: `qm_last_result`. It has no answer: it is a run of steps for the benchmark.
 -- Not listed: `fill`. It has no answer: what it prints of a step is the answer and the result of an advance.
-use Prim.Native.Nat.{ℕ, _≤_}
+use Prim.Native.Nat.{ℕ}
 use mathlib.Core.Path.{_≡_}
-use mathlib.Core.List.{List, _++_}
+use mathlib.Core.Bool.{true}
+use mathlib.Core.List.{List}
 use mathlib.Core.Logic.{_≢_}
-use lib.ListN.{length, replicate, take}
+use lib.ListN.{length, replicate}
 use Rattle.rules.specs.declared.message.Message.{Message}
 use Rattle.station.specs.declared.outcome.Outcome.{Outcome}
 use Rattle.station.specs.declared.station.Station.{Station}
@@ -40,10 +41,11 @@ use Rattle.table.specs.Fresh.{freshOf as freshTableOf}
 use Rattle.table.specs.Lent.{cleared, sendInTold, sendInPool, loseInTold, loseInPool}
 use Rattle.table.specs.Steps.{planAt, planOf, stepOf}
 use Rattle.table.specs.Way.{onTheWay, atStations, asked}
-use Rattle.script.specs.declared.filling.Run.{Run}
-use Rattle.script.specs.Decimal.{says}
-use Rattle.script.specs.Filling.{stepRoom, owed, Started}
-use Rattle.script.specs.Running.{openOf, advanceOf}
+use Rattle.script.specs.declared.filling.Filled.{Filled}
+use Rattle.script.specs.declared.starting.Put.{Put}
+use Rattle.script.specs.declared.starting.Run.{Run}
+use Rattle.script.specs.Filling.{Fills}
+use Rattle.script.specs.Starting.{PutsAnswer, startedOf}
 
 -- every number 0 and nothing held: no station, and no table
 abbrev pub noStation : Station
@@ -134,10 +136,10 @@ pub record Demand1 : Type 0 where
   -- 7, 8: the pool by value, as it was
   pub lose-value : (pool : List Place) (p : ℕ) (r : Pooled) → r ≡ record { told = loseInTold pool p; pool = loseInPool pool p }
       → Refused (r .told .answer) (r .told .result) pool (r .pool)
-  -- 13, 12, 1: a refused script opens no table, and its position is 0
-  pub «open» : (script : List ℕ) → let r = openOf script in r .answer ≢ done → (r .table ≡ noTable) × (r .at ≡ 0)
-  -- 12, or those of the step: the table is as it was. The position is past the line all the same
-  pub advance : (script : List ℕ) (t : Table) (at : ℕ) → let r = advanceOf script t at in Refused (r .answer) (r .result) t (r .table)
-  -- it has no answer of its own: all that a refused script prints, now or later, is one line with the answer of its opening and result 0
-  pub start : (script : List ℕ) (run : Run) (bytes : List ℕ) → Started script run bytes → stepRoom ≤ length bytes → let answer = openOf script .answer in
-      answer ≢ done → take (run .size) bytes ++ owed script run ≡ says 0 answer 0
+  -- 13, 12, 1: a refused script hands back a run that is finished, with no table and every number 0
+  pub start : (script : List ℕ) → let r = startedOf script in Refused (r .answer) (r .result) (record { table = noTable; at = 0; number = 0; finished = true }) (r .run)
+  -- 14: the buffer is as it was
+  pub put-answer : (answer : ℕ) (before : List ℕ) (r : Put) (after : List ℕ) → PutsAnswer answer before r after → Refused (r .answer) (r .result) before after
+  -- 1, 14: the run is handed back as it was, and so is the buffer
+  pub fill : (script : List ℕ) (run : Run) (before : List ℕ) (r : Filled) (after : List ℕ) → Fills script run before r after
+      → r .answer ≢ done → (r .result ≡ 0) × (r .run ≡ run) × (after ≡ before)

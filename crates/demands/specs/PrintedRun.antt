@@ -5,34 +5,34 @@ use mathlib.Core.Path.{_≡_}
 use mathlib.Core.List.{List, [], _∷_, _++_}
 use lib.ListN.{length}
 use Rattle.rules.specs.Answers.{done, badLine}
+use Rattle.table.specs.declared.steps.Asked.{Asked}
+use Rattle.table.specs.declared.steps.Asked.the-variants.{NoStep, OneStep}
 use Rattle.table.specs.declared.steps.Step.{Step}
 use Rattle.table.specs.declared.table.Table.{Table}
 use Rattle.table.specs.Fresh.{freshOf}
 use Rattle.table.specs.Steps.{stepOf}
 use Rattle.table.specs.Way.{onTheWay, atStations}
-use Rattle.script.specs.declared.lines.Line.{Line}
-use Rattle.script.specs.declared.lines.Line.the-variants.{NoStep, OneStep}
 use Rattle.script.specs.declared.words.Numeral.the-variants.{Reads}
 use Rattle.script.specs.Words.{upTo, past}
 use Rattle.script.specs.Lines.{lineOf, stationsOf}
 use Rattle.script.specs.Decimal.{says}
 use Rattle.script.specs.Script.{mostBytes, closing, outputOf}
-use Rattle.runs.specs.Runs.{Line as LogLine, logOf, tableAfter, added, drawn}
+use Rattle.runs.specs.Runs.{Line, logOf, tableAfter, added, drawn}
 
 -- the lines in these bytes, at most so many: lines end in byte 10, and a last line with at least one byte needs none
-unfoldable pub linesIn : ℕ → List ℕ → List Line
+unfoldable pub linesIn : ℕ → List ℕ → List Asked
 linesIn zero rest = []
 linesIn (suc most) [] = []
 linesIn (suc most) (b ∷ bs) = let rest = b ∷ bs in lineOf (upTo 10 rest) ∷ linesIn most (past 10 rest)
 
 -- the steps among lines: a line that cannot be read is none
-unfoldable pub stepsAmong : List Line → List Step
+unfoldable pub stepsAmong : List Asked → List Step
 stepsAmong [] = []
 stepsAmong (NoStep ∷ lines) = stepsAmong lines
 stepsAmong (OneStep step ∷ lines) = step ∷ stepsAmong lines
 
 -- what is printed of lines, numbered from n: of one that cannot be read 12 and 0; of a step the answer and the result in the log's next line
-unfoldable pub said : ℕ → List Line → List LogLine → List ℕ
+unfoldable pub said : ℕ → List Asked → List Line → List ℕ
 said n [] log = []
 said n (NoStep ∷ lines) log = says n badLine 0 ++ said (n + 1) lines log
 said n (OneStep step ∷ lines) (x ∷ log) = says n (x .answer) (x .result) ++ said (n + 1) lines log
@@ -46,11 +46,11 @@ pub record Starts (script : List ℕ) (count : ℕ) : Type 0 where
   pub made : freshOf count .answer ≡ done
 
 -- the lines past the first; there are no more of them than bytes
-abbrev pub linesOf : List ℕ → List Line
+abbrev pub linesOf : List ℕ → List Asked
 linesOf script = let rest = past 10 script in linesIn (length rest) rest
 
 -- the log of the script's steps from a fresh table on, and the table that they leave
-abbrev pub scriptLog : List ℕ → ℕ → List LogLine
+abbrev pub scriptLog : List ℕ → ℕ → List Line
 scriptLog script count = logOf stepOf (freshOf count .table) (stepsAmong (linesOf script))
 
 abbrev pub lastTable : List ℕ → ℕ → Table

@@ -32,7 +32,9 @@ use Rattle.table.specs.Steps.{needsPlace, placeLookedAt, planAt, planOf, statio
 use Rattle.table.specs.Table.{below, lowestEmpty, mostPlaces}
 use Rattle.table.specs.Way.{onTheWay, atStations, asked}
 use Rattle.measure.specs.Steps.{lastResult}
-use Rattle.script.specs.Running.{openOf, advanceOf}
+use Rattle.script.specs.Filling.{Fills}
+use Rattle.script.specs.Starting.{PutsAnswer, startedOf}
+use Rattle.script.specs.declared.starting.Run.{Run}
 
 -- any two outcomes that a promise allows are equal
 abbrev pub Settles : {A : Type 0} → (A → Type 0) → Type 0
@@ -90,5 +92,6 @@ pub record Settled : Type 0 where
   pub send-value : (pool : List Place) (m : Message) → Settles {A = Pooled} (λ r. r ≡ record { told = sendInTold pool; pool = sendInPool pool m })
   pub lose-value : (pool : List Place) (p : ℕ) → Settles {A = Pooled} (λ r. r ≡ record { told = loseInTold pool p; pool = loseInPool pool p })
   -- a script
-  pub «open» : (script : List ℕ) → Settles (λ r. r ≡ openOf script)
-  pub advance : (script : List ℕ) (t : Table) (at : ℕ) → Settles (λ r. r ≡ advanceOf script t at)
+  pub start : (script : List ℕ) → Settles (λ r. r ≡ startedOf script)
+  pub put-answer : (answer : ℕ) (before : List ℕ) → SettlesBoth (PutsAnswer answer before)
+  pub fill : (script : List ℕ) (run : Run) (before : List ℕ) → SettlesBoth (Fills script run before)

@@ -1,24 +1,31 @@
 -- For the promises of a script wrong outcomes that they rule out.
 use Prim.Native.Nat.{ℕ}
-use mathlib.Core.List.{List, [], _∷_, _++_}
-use Rattle.table.specs.Fresh.{freshOf}
+use mathlib.Core.List.{List, [], _∷_, _++_, replicate}
 use Rattle.script.specs.Lines.{wordStations, wordLose, wordAdd}
-use Rattle.script.specs.Running.{openOf, advanceOf}
+use Rattle.script.specs.Starting.{answerPut, putOf, startedOf}
+use Rattle.script.specs.Filling.{turnOf}
 use Rattle.demands.specs.Wrong.{Wrong}
 
--- `stations 2`, and the same with a line `lose 5` behind it
+-- `stations 2`, the same with a line `lose 5` behind it, and with a line `add` that cannot be read
 abbrev opening : List ℕ
 opening = wordStations ++ (32 ∷ 50 ∷ 10 ∷ [])
 
 abbrev losing : List ℕ
 losing = opening ++ wordLose ++ (32 ∷ 53 ∷ 10 ∷ [])
 
+abbrev unread : List ℕ
+unread = opening ++ wordAdd ++ (10 ∷ [])
+
 abbrev pub wrongScripts : List Wrong
 wrongScripts =
-    -- open: takes a script with no bytes; starts the steps at the first line again
-    record { promised = openOf [] .answer ∷ []; wrong = 0 ∷ [] }
-    ∷ record { promised = let o = openOf losing in o .answer ∷ o .at ∷ []; wrong = 0 ∷ 0 ∷ [] }
-    -- advance: does a line that cannot be read; stops inside the line
-    ∷ record { promised = advanceOf opening (freshOf 2 .table) 0 .answer ∷ []; wrong = 0 ∷ [] }
-    ∷ record { promised = let a = advanceOf losing (freshOf 2 .table) 11 in a .answer ∷ a .at ∷ []; wrong = 8 ∷ 17 ∷ [] }
+    -- start: takes a script with no bytes; starts the steps at the first line again
+    record { promised = startedOf [] .answer ∷ []; wrong = 0 ∷ [] }
+    ∷ record { promised = let s = startedOf losing in s .answer ∷ s .run .at ∷ []; wrong = 0 ∷ 0 ∷ [] }
+    -- put_answer: cuts the line to the room that there is; tells the room as the result
+    ∷ record { promised = answerPut 13 (0 ∷ 0 ∷ []); wrong = 48 ∷ 32 ∷ [] }
+    ∷ record { promised = putOf 12 (replicate 64 0) .result ∷ []; wrong = 64 ∷ [] }
+    -- fill: does a line that cannot be read; stops inside a line; never puts the closing lines
+    ∷ record { promised = turnOf unread (startedOf unread .run) 2048 .bytes; wrong = 49 ∷ 32 ∷ 48 ∷ 32 ∷ 48 ∷ 10 ∷ [] }
+    ∷ record { promised = turnOf losing (startedOf losing .run) 2048 .run .at ∷ []; wrong = 17 ∷ [] }
+    ∷ record { promised = turnOf opening (startedOf opening .run) 2048 .bytes; wrong = [] }
     ∷ []

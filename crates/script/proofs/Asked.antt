@@ -3,12 +3,12 @@ use Prim.Native.Nat.{ℕ}
 use mathlib.Core.Path.{_≡_, refl, sym, ap, _∙_}
 use mathlib.Core.Bool.{Bool, true, false, cond}
 use mathlib.Core.List.{List}
+use Rattle.table.specs.declared.steps.Asked.{Asked}
+use Rattle.table.specs.declared.steps.Asked.the-variants.{NoStep, OneStep}
 use Rattle.table.specs.declared.steps.Step.{Step}
 use Rattle.table.specs.declared.steps.Step.the-variants.{Add, Draw, Send}
 use Rattle.script.specs.declared.words.Numeral.{Numeral}
 use Rattle.script.specs.declared.words.Numeral.the-variants.{Unreadable, Reads}
-use Rattle.script.specs.declared.lines.Line.{Line}
-use Rattle.script.specs.declared.lines.Line.the-variants.{NoStep, OneStep}
 use Rattle.script.specs.declared.lines.Pair.{Pair}
 use Rattle.script.specs.declared.lines.Pair.the-variants.{NoPair, Both}
 use Rattle.script.specs.Words.{numeralOf, past, sameBytes, upTo}
@@ -24,7 +24,7 @@ pub word-is : {t : Bool} (word other : List ℕ) → t ≡ sameBytes word other 
 word-is word other e f = same-true word other (sym e ∙ f)
 
 -- a step of two numbers, from the pair that was read
-abbrev withPair : (ℕ → ℕ → Step) → Pair → Line
+abbrev withPair : (ℕ → ℕ → Step) → Pair → Asked
 withPair step NoPair = NoStep
 withPair step (Both n k) = OneStep (step n k)
 

@@ -1,7 +1,7 @@
 -- The closing lines: one station at a time, their lengths, and the sums that they tell. Assumes nothing.
 use Prim.Native.Nat.{ℕ, zero, suc, _+_, _*_, _≤_, _<_}
 use mathlib.Core.Path.{_≡_, refl, ap}
-use mathlib.Core.Bool.{Bool, true, false}
+use mathlib.Core.Bool.{true}
 use mathlib.Core.List.{List, [], _++_}
 use native.Mathlib.Numerals.{add-one}
 use native.Mathlib.Omega.{arith}
@@ -16,10 +16,9 @@ use Rattle.handshake.specs.Sums.{sumBelow}
 use Rattle.table.specs.Way.{asked, atStations, between, onTheWay, wayFrom}
 use Rattle.table.proofs.Tables.{table-parts}
 use Rattle.table.proofs.Sums.{between-small, station-sound}
-use Rattle.script.specs.Decimal.{totalLine, wayLine}
 use Rattle.script.specs.Script.{stationLines}
-use Rattle.script.specs.Closing.{closingOf, closingRoom, seatLine}
-use Rattle.script.proofs.Lengths.{length-station, length-total, length-way}
+use Rattle.script.specs.Closing.{seatLine}
+use Rattle.script.proofs.Lengths.{length-station}
 use Rattle.script.proofs.Puts.{both}
 
 pub no-stations : (t : Table) → stationLines t 0 ≡ []
@@ -67,32 +66,5 @@ module _ (t : Table) (e : tableSound t ≡ true) where
       omega (arith, sum-small (wayFrom t) (mostStations * mostValue) (t .count) way-from-small)
 
 -- a sum that was asked for is told where the table is sound
-pub was-sound : (t : Table) (sum : ℕ) {r : Summed} → r ≡ asked t sum → r .answer ≡ 0 → tableSound t ≡ true
-was-sound t sum e z = by (tableSound t) refl
-  where
-    by : (b : Bool) → tableSound t ≡ b → tableSound t ≡ true
-    by true f = f
-    by false f = let n : _≡_ {A = ℕ} 0 1 = cc (rw f at e) in absurd (omega arith)
-
-pub was-not-sound : (t : Table) (sum : ℕ) {r : Summed} → r ≡ asked t sum → (r .answer ≡ 0 → ⊥) → tableSound t ≡ false
-was-not-sound t sum {r} e z = by (tableSound t) refl
-  where
-    by : (b : Bool) → tableSound t ≡ b → tableSound t ≡ false
-    by true f = absurd (z (ap (λ (s : Summed). s .answer) (rw f at e)))
-    by false f = f
-
 pub sum-told : (t : Table) (sum : ℕ) {r : Summed} → r ≡ asked t sum → tableSound t ≡ true → r .result ≡ sum
 sum-told t sum e f = ap (λ (s : Summed). s .result) (rw f at e)
-
--- the closing lines fit the room that is asked for them
-pub length-closing : (t : Table) → length (closingOf t) ≤ closingRoom
-length-closing t = by (tableSound t) refl
-  where
-    by : (b : Bool) → tableSound t ≡ b → length (closingOf t) ≤ closingRoom
-    by true e =
-        let m = table-parts t e .most in
-        let lines = stationLines t (t .count) in
-        let way = onTheWay t in
-        let total = atStations t + onTheWay t in
-        rw (e, length-append (lines ++ wayLine way) (totalLine total), length-append lines (wayLine way)) (omega (arith, length-stations t (t .count), length-way way, length-total total))
-    by false e = rw e (omega arith)

@@ -6,9 +6,13 @@ pub mod Puts
 pub mod Decimals
 pub mod Lengths
 pub mod Closings
+pub mod Readings
+pub mod Tells
+pub mod Turns
+pub mod Fits
 pub mod Runs
-pub mod Fills
-pub mod InPlace
 pub mod Starts
+pub mod Refused
 pub mod Whole
+pub mod Loops
 pub mod Samples

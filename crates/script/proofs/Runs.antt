@@ -1,28 +1,24 @@
 -- A script taken by positions prints what it prints as a whole. Assumes nothing.
-use Prim.Native.Nat.{ℕ, zero, suc, _+_, _-_, _≤_, _<_}
+use Prim.Native.Nat.{ℕ, zero, suc, _+_, _≤_, _<_}
 use mathlib.Core.Path.{_≡_, refl, sym, ap, _∙_}
 use mathlib.Core.Bool.{Bool, true, false, cond}
-use mathlib.Core.List.{List, [], _∷_, _++_}
-use native.Mathlib.Nat.{add-assoc}
+use mathlib.Core.List.{List, [], _∷_, _++_, append-assoc}
+use mathlib.Core.Logic.{⊎-elim}
+use native.Mathlib.Nat.{add-assoc, add-zero}
 use native.Mathlib.Omega.{arith}
 use borrow.Author.Tests.{ltb-false}
 use lib.Dec.{ltb}
 use lib.ListN.{length, drop, length-drop, drop-of-length-le}
 use lib.Seq.{drop-drop, drop-length}
 use Rattle.table.specs.declared.table.Table.{Table}
-use Rattle.table.specs.declared.stepping.Stepped.{Stepped}
-use Rattle.table.specs.Fresh.{freshOf}
-use Rattle.script.specs.declared.words.Numeral.{Numeral}
-use Rattle.script.specs.declared.words.Numeral.the-variants.{Unreadable, Reads}
+use Rattle.table.specs.Running.{askedStep, leftBy}
 use Rattle.script.specs.Words.{indexOf, past, upTo}
-use Rattle.script.specs.Lines.{lineOf, stationsOf}
+use Rattle.script.specs.Lines.{lineOf}
 use Rattle.script.specs.Decimal.{says}
-use Rattle.script.specs.Script.{mostBytes, closing, lineStep, openedBy, outputOf, runFrom, started}
-use Rattle.script.specs.Running.{advanceOf, notOpened, openBy, openOf, owedFrom, pastLine, printedBy, startAt}
-
-pub start-refused : (n at : ℕ) → (n ≡ 0 → ⊥) → startAt n at ≡ 0
-start-refused zero at f = absurd (f refl)
-start-refused (suc n) at f = refl
+use Rattle.script.specs.Script.{closing, runFrom}
+use Rattle.script.specs.Reading.{lineAt, linesFrom, pastLine, pastLines}
+use Rattle.script.specs.Telling.{saidFor}
+use Rattle.script.proofs.Readings.{below-or-not, lines-more, lines-none, lines-zero, past-more, past-none, past-zero}
 
 -- the position past a line leaves what stands past the line
 past-by : (script : List ℕ) (at i : ℕ) (inside : Bool) → ltb i (length (drop at script)) ≡ inside → drop (cond inside (at + i + 1) (length script)) script ≡ drop (i + 1) (drop at script)
@@ -45,41 +41,43 @@ lines-enough (suc few) zero t n (b ∷ bs) h l = absurd (omega arith)
 lines-enough (suc few) (suc many) t n [] h l = refl
 lines-enough (suc few) (suc many) t n (b ∷ bs) h l =
     let rest = b ∷ bs in
-    let s = lineStep t (lineOf (upTo 10 rest)) in
+    let s = askedStep t (lineOf (upTo 10 rest)) in
     let shorter : length (past 10 rest) ≤ length bs = rw length-drop (omega arith) in
     ap (λ (more : List ℕ). says n (s .answer) (s .result) ++ more) (lines-enough few many (s .table) (n + 1) (past 10 rest) (omega arith) (omega arith))
 
-run-on : (t : Table) (n : ℕ) (rest : List ℕ) → 0 < length rest → let s = lineStep t (lineOf (upTo 10 rest)) in runFrom (length rest) t n rest ≡ says n (s .answer) (s .result) ++ runFrom (length (past 10 rest)) (s .table) (n + 1) (past 10 rest)
+run-on : (t : Table) (n : ℕ) (rest : List ℕ) → 0 < length rest → let s = askedStep t (lineOf (upTo 10 rest)) in runFrom (length rest) t n rest ≡ says n (s .answer) (s .result) ++ runFrom (length (past 10 rest)) (s .table) (n + 1) (past 10 rest)
 unfolding runFrom
 run-on t n [] h = absurd (omega arith)
 run-on t n (b ∷ bs) h =
     let rest = b ∷ bs in
-    let s = lineStep t (lineOf (upTo 10 rest)) in
+    let s = askedStep t (lineOf (upTo 10 rest)) in
     ap (λ (more : List ℕ). says n (s .answer) (s .result) ++ more) (lines-enough (length bs) (length (past 10 rest)) (s .table) (n + 1) (past 10 rest) (rw length-drop (omega arith)) (omega arith))
 
+-- what is printed from step number n on, for the script from a position on
+unfoldable pub owedFrom : List ℕ → Table → ℕ → ℕ → List ℕ
+owedFrom script t n at = let rest = drop at script in runFrom (length rest) t n rest
+
 -- the line at a position is printed first, and then what is owed past it
-pub owed-on : (script : List ℕ) (t : Table) (n at : ℕ) → at < length script → let a = advanceOf script t at in owedFrom script t n at ≡ says n (a .answer) (a .result) ++ owedFrom script (a .table) (n + 1) (a .at)
-unfolding owedFrom advanceOf
+owed-on : (script : List ℕ) (t : Table) (n at : ℕ) → at < length script → let s = askedStep t (lineOf (lineAt script at)) in owedFrom script t n at ≡ says n (s .answer) (s .result) ++ owedFrom script (s .table) (n + 1) (pastLine script at)
+unfolding owedFrom
 owed-on script t n at h = rw (past-left script at) (run-on t n (drop at script) (rw length-drop (omega arith)))
 
 pub owed-ended : (script : List ℕ) (t : Table) (n at : ℕ) → length script ≤ at → owedFrom script t n at ≡ closing t
 unfolding owedFrom runFrom
 owed-ended script t n at h = rw (drop-of-length-le script h)
 
--- a script prints what its opening says
-started-by : (script : List ℕ) (made : Stepped) (answer : ℕ) → made .answer ≡ answer → started made (past 10 script) ≡ printedBy script answer (made .table) (startAt answer (pastLine script 0))
-unfolding owedFrom
-started-by script made zero e = rw (e, past-left script 0)
-started-by script made (suc n) e = rw e
-
-opened-by : (script : List ℕ) (first : Numeral) → let o = openBy first (pastLine script 0) in openedBy first (past 10 script) ≡ printedBy script (o .answer) (o .table) (o .at)
-opened-by script Unreadable = refl
-opened-by script (Reads count) = started-by script (freshOf count) (freshOf count .answer) refl
-
-by-size : (long : Bool) (script : List ℕ) (first : Numeral) → let o = cond long (notOpened 13) (openBy first (pastLine script 0)) in cond long (says 0 13 0) (openedBy first (past 10 script)) ≡ printedBy script (o .answer) (o .table) (o .at)
-by-size true script first = refl
-by-size false script first = opened-by script first
-
-pub output-opened : (script : List ℕ) → let o = openOf script in outputOf script ≡ printedBy script (o .answer) (o .table) (o .at)
-unfolding outputOf openOf
-output-opened script = by-size (ltb mostBytes (length script)) script (stationsOf (upTo 10 script))
+-- several lines are printed first, and then what is owed past them
+pub owed-lines : (most : ℕ) (script : List ℕ) (t : Table) (n at : ℕ) → let xs = linesFrom most script at in owedFrom script t n at ≡ saidFor n t xs ++ owedFrom script (leftBy t xs) (n + length xs) (pastLines most script at)
+unfolding saidFor leftBy
+owed-lines zero script t n at = rw (lines-zero script at, past-zero script at, add-zero n)
+owed-lines (suc most) script t n at =
+    ⊎-elim
+    (λ (h : at < length script).
+    let x = lineOf (lineAt script at) in
+    let s = askedStep t x in
+    let xs = linesFrom most script (pastLine script at) in
+    let count : n + 1 + length xs ≡ n + length (x ∷ xs) = omega arith in
+    rw (lines-more script at most h, past-more script at most h, append-assoc (says n (s .answer) (s .result)) (saidFor (n + 1) (s .table) xs), ← count)
+    (owed-on script t n at h ∙ ap (λ (more : List ℕ). says n (s .answer) (s .result) ++ more) (owed-lines most script (s .table) (n + 1) (pastLine script at))))
+    (λ (h : length script ≤ at). rw (lines-none script at (suc most) h, past-none script at (suc most) h, add-zero n))
+    (below-or-not at (length script))

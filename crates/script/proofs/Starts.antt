@@ -1,67 +1,82 @@
--- A script that is not refused starts with a sound table, and one that is refused prints one line. Assumes nothing.
-use Prim.Native.Nat.{ℕ, zero, suc, _+_, _≤_, _<_}
-use mathlib.Core.Path.{_≡_, refl, sym, _∙_}
+-- A script starts with a sound table and its first step's number, or it is refused and prints one line. Assumes nothing.
+use Prim.Native.Nat.{ℕ, zero, suc, _≤_, _<_}
+use mathlib.Core.Path.{_≡_, refl, sym}
 use mathlib.Core.Bool.{Bool, true, false, cond}
-use mathlib.Core.List.{List, append-nil}
+use mathlib.Core.List.{List, [], _∷_}
 use native.Mathlib.Omega.{arith}
+use borrow.Author.Tests.{ltb-false}
 use lib.Dec.{ltb}
-use lib.ListN.{length, take}
-use lib.Seq.{sets, length-sets}
+use lib.ListN.{length}
 use Rattle.station.specs.Sound.{countSound}
+use Rattle.table.specs.declared.stepping.Stepped.{Stepped}
+use Rattle.table.specs.declared.table.Table.{Table}
 use Rattle.table.specs.Sound.{tableSound}
 use Rattle.table.specs.Fresh.{freshOf}
 use Rattle.table.proofs.FreshSound.{fresh-table-sound}
 use Rattle.script.specs.declared.words.Numeral.{Numeral}
 use Rattle.script.specs.declared.words.Numeral.the-variants.{Unreadable, Reads}
-use Rattle.script.specs.declared.running.Opened.{Opened}
+use Rattle.script.specs.declared.starting.Started.{Started}
+use Rattle.script.specs.Words.{past, upTo}
 use Rattle.script.specs.Lines.{stationsOf}
 use Rattle.script.specs.Decimal.{says}
-use Rattle.script.specs.Script.{mostBytes, outputOf}
-use Rattle.script.specs.Running.{lineAt, notOpened, openBy, openOf, pastLine, printedBy}
-use Rattle.script.specs.Filling.{Started, stepRoom}
-use Rattle.script.proofs.Lengths.{length-says}
-use Rattle.script.proofs.Runs.{output-opened}
-use Rattle.script.proofs.Fills.{put-behind}
+use Rattle.script.specs.Script.{mostBytes, openedBy, outputOf, started}
+use Rattle.script.specs.Reading.{lineAt, pastLine}
+use Rattle.script.specs.Starting.{notStarted, startedOf, startFor, startWith}
+use Rattle.script.specs.Printed.{printedBy}
+use Rattle.script.proofs.Readings.{past-onward, past-within}
+use Rattle.script.proofs.Runs.{owedFrom, past-left}
+
+-- the answer of a table that was made, by cases
+pub made-done : (made : Stepped) (at : ℕ) → made .answer ≡ 0 → record { answer = 0; result = 0; run = record { table = made .table; at = at; number = 1; finished = false } } ≡ startWith made at
+made-done made at e = rw e
+
+pub made-refused : (made : Stepped) (at n : ℕ) → made .answer ≡ n → (n ≡ 0 → ⊥) → notStarted n ≡ startWith made at
+made-refused made at zero e f = absurd (f refl)
+made-refused made at (suc n) e f = rw e
+
+-- how a script begins: with one line that refuses it, or with a sound table and number 1, at a position behind the first line
+pub data Begun (script : List ℕ) (s : Started) : Type 0 where
+  refused : (n : ℕ) → s ≡ notStarted (suc n) → Begun script s
+  going : (t : Table) (at : ℕ) → s ≡ record { answer = 0; result = 0; run = record { table = t; at = at; number = 1; finished = false } }
+      → tableSound t ≡ true → 1 ≤ at → at ≤ length script → length script ≤ mostBytes → Begun script s
 
 fresh-by : (count : ℕ) (sound : Bool) → countSound count ≡ sound → freshOf count .answer ≡ 0 → tableSound (freshOf count .table) ≡ true
 unfolding freshOf
 fresh-by count true e z = fresh-table-sound count e
 fresh-by count false e z = let n : _≡_ {A = ℕ} 1 0 = rw e at z in absurd (omega arith)
 
-opened-by : (long : Bool) (first : Numeral) (at : ℕ) → let o = cond long (notOpened 13) (openBy first at) in o .answer ≡ 0 → tableSound (o .table) ≡ true
-opened-by true first at e = absurd (omega arith)
-opened-by false Unreadable at e = absurd (omega arith)
-opened-by false (Reads count) at e = fresh-by count (countSound count) refl e
+module _ (script : List ℕ) (some : 0 < length script) where
+  made-begun : (made : Stepped) (n : ℕ) → made .answer ≡ n → (made .answer ≡ 0 → tableSound (made .table) ≡ true) → length script ≤ mostBytes → Begun script (startWith made (pastLine script 0))
+  made-begun made zero e s h = going (made .table) (pastLine script 0) (sym (made-done made (pastLine script 0) e)) (s e) (omega (arith, past-onward script 0 some)) (past-within script 0) h
+  made-begun made (suc n) e s h = refused n (sym (made-refused made (pastLine script 0) (suc n) e (λ z. omega arith)))
 
-open-sound : (script : List ℕ) → openOf script .answer ≡ 0 → tableSound (openOf script .table) ≡ true
-unfolding openOf
-open-sound script e = opened-by (ltb mostBytes (length script)) (stationsOf (lineAt script 0)) (pastLine script 0) e
+  first-begun : (first : Numeral) → length script ≤ mostBytes → Begun script (startFor first (pastLine script 0))
+  first-begun Unreadable h = refused 11 refl
+  first-begun (Reads count) h = made-begun (freshOf count) (freshOf count .answer) refl (fresh-by count (countSound count) refl) h
 
-refusal : (script : List ℕ) (o : Opened) (n : ℕ) → o .answer ≡ n → (n ≡ 0 → ⊥) → printedBy script (o .answer) (o .table) (o .at) ≡ says 0 n 0
-refusal script o zero e f = absurd (f refl)
-refusal script o (suc n) e f = rw e
+  size-begun : (long : Bool) → ltb mostBytes (length script) ≡ long → (first : Numeral) → Begun script (cond long (notStarted 13) (startFor first (pastLine script 0)))
+  size-begun true e first = refused 12 refl
+  size-begun false e first = first-begun first (ltb-false mostBytes (length script) e)
 
-module _ (script : List ℕ) (o : Opened) (e : o ≡ openOf script) where
-  opened-prints : outputOf script ≡ printedBy script (o .answer) (o .table) (o .at)
-  opened-prints = rw e (output-opened script)
+pub begun : (script : List ℕ) → Begun script (startedOf script)
+unfolding startedOf stationsOf
+begun [] = refused 11 refl
+begun (b ∷ bs) = let script = b ∷ bs in size-begun script (omega arith) (ltb mostBytes (length script)) refl (stationsOf (lineAt script 0))
 
-  pub starts : {bytes : List ℕ} → o .answer ≡ 0 → Started script (record { table = o .table; at = o .at; number = 1; size = 0; finished = false }) bytes
-  starts {bytes} z =
-      let sound : tableSound (o .table) ≡ true = rw e (open-sound script (rw e at z)) in
-      let prints : outputOf script ≡ printedBy script 0 (o .table) (o .at) = rw z at opened-prints in
-      record { room = omega arith; sound = λ going. sound; says = λ h. sym prints }
+-- a script prints what its start says
+made-prints : (script : List ℕ) (made : Stepped) (answer : ℕ) → made .answer ≡ answer → let s = startWith made (pastLine script 0) in started made (past 10 script) ≡ printedBy (s .answer) (owedFrom script (s .run .table) (s .run .number) (s .run .at))
+unfolding owedFrom
+made-prints script made zero e = rw (e, past-left script 0)
+made-prints script made (suc n) e = rw e
 
-  pub starts-short : {bytes : List ℕ} → length bytes < stepRoom → Started script (record { table = o .table; at = o .at; number = 0; size = 0; finished = true }) bytes
-  starts-short {bytes} h = record { room = omega arith; sound = λ going. cc; says = λ l. absurd (omega arith) }
+first-prints : (script : List ℕ) (first : Numeral) → let s = startFor first (pastLine script 0) in openedBy first (past 10 script) ≡ printedBy (s .answer) (owedFrom script (s .run .table) (s .run .number) (s .run .at))
+first-prints script Unreadable = refl
+first-prints script (Reads count) = made-prints script (freshOf count) (freshOf count .answer) refl
 
-  pub starts-refused : (bytes : List ℕ) {size : ℕ} {bytes′ : List ℕ} → (o .answer ≡ 0 → ⊥) → stepRoom ≤ length bytes → (size ≡ 0 + length (says 0 (o .answer) 0)) × (bytes′ ≡ sets bytes 0 (says 0 (o .answer) 0)) → Started script (record { table = o .table; at = o .at; number = 0; size = size; finished = true }) bytes′
-  starts-refused bytes f h g =
-      let line = says 0 (o .answer) 0 in
-      let short : length line ≤ 63 = length-says 0 (o .answer) 0 in
-      let prints : outputOf script ≡ line = opened-prints ∙ refusal script o (o .answer) refl f in
-      let put : take (0 + length line) (sets bytes 0 line) ≡ line = put-behind bytes 0 line (omega arith) in
-      record {
-        room = rw (g .0, g .1, length-sets) (omega arith);
-        sound = λ going. cc;
-        says = λ l. rw (g .0, g .1, put, append-nil, prints);
-      }
+size-prints : (long : Bool) (script : List ℕ) (first : Numeral) → let s = cond long (notStarted 13) (startFor first (pastLine script 0)) in cond long (says 0 13 0) (openedBy first (past 10 script)) ≡ printedBy (s .answer) (owedFrom script (s .run .table) (s .run .number) (s .run .at))
+size-prints true script first = refl
+size-prints false script first = first-prints script first
+
+pub start-prints : (script : List ℕ) → let s = startedOf script in outputOf script ≡ printedBy (s .answer) (owedFrom script (s .run .table) (s .run .number) (s .run .at))
+unfolding outputOf startedOf
+start-prints script = size-prints (ltb mostBytes (length script)) script (stationsOf (upTo 10 script))

@@ -1,12 +1,8 @@
--- The closing lines as they are put: line by line, into room for the longest.
+-- A station's closing line as it is put, and the room that is asked for the closing lines.
 use Prim.Native.Nat.{ℕ}
-use mathlib.Core.Bool.{cond}
-use mathlib.Core.List.{List, []}
+use mathlib.Core.List.{List}
 use Rattle.station.specs.declared.station.Station.{Station}
-use Rattle.table.specs.declared.table.Table.{Table}
-use Rattle.table.specs.Sound.{tableSound}
 use Rattle.script.specs.Decimal.{stationLine}
-use Rattle.script.specs.Script.{closing}
 
 -- room for 16 stations, the sum on the way and the total
 abbrev pub closingRoom : ℕ
@@ -14,7 +10,3 @@ closingRoom = 2048
 
 abbrev pub seatLine : ℕ → Station → List ℕ
 seatLine k s = stationLine k (s .value) (s .source .0) (s .destination .0)
-
--- a table that is not sound has no closing lines
-abbrev pub closingOf : Table → List ℕ
-closingOf t = cond (tableSound t) (closing t) []

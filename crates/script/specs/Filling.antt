@@ -1,69 +1,68 @@
--- A run of an opened script: what it still owes, and what filling a lent buffer does.
-use Prim.Native.Nat.{ℕ, _+_, _≤_, _<_}
+-- What a turn of filling a lent buffer puts, and the run that it leaves.
+use Prim.Native.Nat.{ℕ, _+_, _/_, min}
 use mathlib.Core.Path.{_≡_}
-use mathlib.Core.Bool.{true, false, cond}
-use mathlib.Core.List.{List, [], _++_}
-use lib.ListN.{length, take}
-use Rattle.table.specs.declared.table.Table.{Table}
+use mathlib.Core.Bool.{Bool, true, false, cond, not, _&&_}
+use mathlib.Core.List.{List, []}
+use lib.Dec.{leb, ltb}
+use lib.ListN.{length}
+use lib.Seq.{sets}
+use Rattle.rules.specs.Answers.{done, notSound, shortBuffer}
 use Rattle.table.specs.Sound.{tableSound}
-use Rattle.script.specs.declared.filling.Run.{Run}
-use Rattle.script.specs.Decimal.{says}
-use Rattle.script.specs.Script.{outputOf}
-use Rattle.script.specs.Closing.{closingOf}
-use Rattle.script.specs.Running.{advanceOf, owedFrom}
+use Rattle.table.specs.Running.{leftBy}
+use Rattle.script.specs.declared.starting.Run.{Run}
+use Rattle.script.specs.declared.filling.Filled.{Filled}
+use Rattle.script.specs.Script.{mostBytes, closing}
+use Rattle.script.specs.Closing.{closingRoom}
+use Rattle.script.specs.Reading.{linesFrom, pastLines}
+use Rattle.script.specs.Telling.{saidFor}
+use Rattle.script.specs.Starting.{stepRoom}
 
--- room for the longest line of a step
-abbrev pub stepRoom : ℕ
-stepRoom = 64
+-- a run is sound if its table is, and its number is not above the longest script's bytes
+abbrev pub runSound : Run → Bool
+runSound run = tableSound (run .table) && leb (run .number) mostBytes
 
--- a step's number that has no next
-abbrev pub lastNumber : ℕ
-lastNumber = 18446744073709551615
+-- how many lines are read at once at most, and how many for a buffer's room
+abbrev pub mostAtOnce : ℕ
+mostAtOnce = 1024
 
--- what is still to be printed
-abbrev pub owed : List ℕ → Run → List ℕ
-owed script run = cond (run .finished) [] (owedFrom script (run .table) (run .number) (run .at))
+abbrev pub atOnce : ℕ → ℕ
+atOnce room = min mostAtOnce (room / stepRoom)
 
--- a run with nothing put yet
-abbrev pub unfilled : Run → Run
-unfilled run = record { table = run .table; at = run .at; number = run .number; size = 0; finished = run .finished }
+-- the answer, the bytes put, and the run past them
+pub record Turn : Type 0 where
+  pub answer : ℕ
+  pub bytes : List ℕ
+  pub run : Run
 
--- a run that is not finished
-abbrev pub unfinished : Table → ℕ → ℕ → ℕ → Run
-unfinished table at number size = record { table = table; at = at; number = number; size = size; finished = false }
+-- nothing is put, and the run stays as it is
+abbrev pub still : ℕ → Run → Turn
+still answer run = record { answer = answer; bytes = []; run = run }
 
--- the line that the next step prints, and the run past it
-abbrev pub stepSays : List ℕ → Run → List ℕ
-stepSays script run = let a = advanceOf script (run .table) (run .at) in says (run .number) (a .answer) (a .result)
+-- the lines of the next steps, at most so many
+abbrev pub stepped : List ℕ → Run → ℕ → Turn
+stepped script run most =
+    let lines = linesFrom most script (run .at) in
+    let next : Run = record { table = leftBy (run .table) lines; at = pastLines most script (run .at); number = run .number + length lines; finished = false } in
+    record { answer = done; bytes = saidFor (run .number) (run .table) lines; run = next }
 
-abbrev pub steppedRun : List ℕ → Run → Run
-steppedRun script run =
-    let a = advanceOf script (run .table) (run .at) in
-    record { table = a .table; at = a .at; number = run .number + 1; size = run .size + length (stepSays script run); finished = false }
+-- the closing lines, and the run is finished
+abbrev pub closed : Run → Turn
+closed run =
+    let next : Run = record { table = run .table; at = run .at; number = run .number; finished = true } in
+    record { answer = done; bytes = closing (run .table); run = next }
 
--- the run past its closing lines
-abbrev pub closedRun : Run → Run
-closedRun run =
-    record { table = run .table; at = run .at; number = run .number; size = run .size + length (closingOf (run .table)); finished = true }
+-- refused by 1, 14; a finished run puts nothing; one with lines left puts the lines of steps, and one at its end the closing lines
+unfoldable pub turnOf : List ℕ → Run → ℕ → Turn
+turnOf script run room =
+    cond (not (runSound run)) (still notSound run)
+    (cond (ltb room closingRoom) (still shortBuffer run)
+    (cond (run .finished) (still done run)
+    (cond (ltb (run .at) (length script)) (stepped script run (atOnce room)) (closed run))))
 
--- Filling brings a run to the next one: of a sound table, what was put and what is still owed are what was owed before.
-pub record Filled (script : List ℕ) (run next : Run) (bytes : List ℕ) : Type 0 where
-  pub room : next .size ≤ length bytes
-  pub onward : run .at ≤ next .at
-  pub sound : tableSound (run .table) ≡ true → tableSound (next .table) ≡ true
-  pub says : tableSound (run .table) ≡ true → take (next .size) bytes ++ owed script next ≡ owed script run
+abbrev pub filledBy : Turn → Filled
+filledBy turn = record { answer = turn .answer; result = length (turn .bytes); run = turn .run }
 
--- A run is left unfinished only where there is less room than this, or its steps can be counted no further.
-abbrev pub NoRoom : ℕ → Run → List ℕ → Type 0
-NoRoom room run bytes = run .finished ≡ false → run .number < lastNumber → length bytes < run .size + room
-
--- Starting opens a script: what was put and what is then owed are all that the script prints, where there was room for the line of a refusal.
-pub record Started (script : List ℕ) (run : Run) (bytes : List ℕ) : Type 0 where
-  pub room : run .size ≤ length bytes
-  pub sound : run .finished ≡ false → tableSound (run .table) ≡ true
-  pub says : stepRoom ≤ length bytes → take (run .size) bytes ++ owed script run ≡ outputOf script
-
--- the bytes of one filling after the other, up to the one that finished
-pub data Pieces (script : List ℕ) : Run → List ℕ → Type 0 where
-  last : {run : Run} → run .finished ≡ true → Pieces script run []
-  piece : {run next : Run} {bytes rest : List ℕ} → run .finished ≡ false → Filled script run next bytes → Pieces script next rest → Pieces script run (take (next .size) bytes ++ rest)
+-- the first bytes of the buffer are those put, and every byte behind them is as it was
+pub record Fills (script : List ℕ) (run : Run) (out : List ℕ) (r : Filled) (later : List ℕ) : Type 0 where
+  pub filled : r ≡ filledBy (turnOf script run (length out))
+  pub lent : later ≡ sets out 0 (turnOf script run (length out) .bytes)

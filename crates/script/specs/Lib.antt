@@ -4,5 +4,8 @@ pub mod Lines
 pub mod Decimal
 pub mod Script
 pub mod Closing
-pub mod Running
+pub mod Reading
+pub mod Telling
+pub mod Starting
 pub mod Filling
+pub mod Printed

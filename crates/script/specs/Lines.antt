@@ -2,12 +2,12 @@
 use Prim.Native.Nat.{ℕ}
 use mathlib.Core.Bool.{cond}
 use mathlib.Core.List.{List, [], _∷_}
+use Rattle.table.specs.declared.steps.Asked.{Asked}
+use Rattle.table.specs.declared.steps.Asked.the-variants.{NoStep, OneStep}
 use Rattle.table.specs.declared.steps.Step.{Step}
 use Rattle.table.specs.declared.steps.Step.the-variants.{Add, Draw, Send, Deliver, Lose}
 use Rattle.script.specs.declared.words.Numeral.{Numeral}
 use Rattle.script.specs.declared.words.Numeral.the-variants.{Unreadable, Reads}
-use Rattle.script.specs.declared.lines.Line.{Line}
-use Rattle.script.specs.declared.lines.Line.the-variants.{NoStep, OneStep}
 use Rattle.script.specs.Words.{upTo, past, numeralOf, sameBytes}
 
 -- the words of the language, in bytes
@@ -30,20 +30,20 @@ abbrev pub wordLose : List ℕ
 wordLose = 108 ∷ 111 ∷ 115 ∷ 101 ∷ []
 
 -- a step of one number, and of two
-abbrev pub withOne : (ℕ → Step) → Numeral → Line
+abbrev pub withOne : (ℕ → Step) → Numeral → Asked
 withOne step Unreadable = NoStep
 withOne step (Reads n) = OneStep (step n)
 
-abbrev pub withTwo : (ℕ → ℕ → Step) → Numeral → Numeral → Line
+abbrev pub withTwo : (ℕ → ℕ → Step) → Numeral → Numeral → Asked
 withTwo step Unreadable k = NoStep
 withTwo step (Reads n) Unreadable = NoStep
 withTwo step (Reads n) (Reads k) = OneStep (step n k)
 
-abbrev pub twoNumbers : (ℕ → ℕ → Step) → List ℕ → Line
+abbrev pub twoNumbers : (ℕ → ℕ → Step) → List ℕ → Asked
 twoNumbers step rest = withTwo step (numeralOf (upTo 32 rest)) (numeralOf (past 32 rest))
 
 -- `add S A`, `draw S A`, `send S T`, `deliver P`, `lose P`
-abbrev pub lineBy : List ℕ → List ℕ → Line
+abbrev pub lineBy : List ℕ → List ℕ → Asked
 lineBy word rest =
     cond (sameBytes word wordAdd) (twoNumbers Add rest)
     (cond (sameBytes word wordDraw) (twoNumbers Draw rest)
@@ -51,7 +51,7 @@ lineBy word rest =
     (cond (sameBytes word wordDeliver) (withOne Deliver (numeralOf rest))
     (cond (sameBytes word wordLose) (withOne Lose (numeralOf rest)) NoStep))))
 
-unfoldable pub lineOf : List ℕ → Line
+unfoldable pub lineOf : List ℕ → Asked
 lineOf line = lineBy (upTo 32 line) (past 32 line)
 
 -- `stations N`

@@ -5,17 +5,14 @@ use mathlib.Core.List.{List, [], _∷_, _++_}
 use lib.Dec.{ltb}
 use lib.ListN.{length}
 use Rattle.rules.specs.Answers.{badLine, longScript}
-use Rattle.rules.specs.Report.{noReport}
 use Rattle.table.specs.declared.table.Table.{Table}
 use Rattle.table.specs.declared.stepping.Stepped.{Stepped}
 use Rattle.table.specs.Table.{stationAt}
 use Rattle.table.specs.Fresh.{freshOf}
-use Rattle.table.specs.Steps.{stepOf}
+use Rattle.table.specs.Running.{askedStep}
 use Rattle.table.specs.Way.{onTheWay, atStations}
 use Rattle.script.specs.declared.words.Numeral.{Numeral}
 use Rattle.script.specs.declared.words.Numeral.the-variants.{Unreadable, Reads}
-use Rattle.script.specs.declared.lines.Line.{Line}
-use Rattle.script.specs.declared.lines.Line.the-variants.{NoStep, OneStep}
 use Rattle.script.specs.Words.{upTo, past}
 use Rattle.script.specs.Lines.{lineOf, stationsOf}
 use Rattle.script.specs.Decimal.{says, stationLine, wayLine, totalLine}
@@ -23,11 +20,6 @@ use Rattle.script.specs.Decimal.{says, stationLine, wayLine, totalLine}
 -- the longest script
 abbrev pub mostBytes : ℕ
 mostBytes = 65536
-
--- a line is a step; one that cannot be read changes nothing
-abbrev pub lineStep : Table → Line → Stepped
-lineStep t NoStep = record { answer = badLine; result = 0; report = noReport; table = t }
-lineStep t (OneStep step) = stepOf t step
 
 -- each station's value and clocks
 unfoldable pub stationLines : Table → ℕ → List ℕ
@@ -44,7 +36,7 @@ runFrom zero t n rest = closing t
 runFrom (suc lines) t n [] = closing t
 runFrom (suc lines) t n (b ∷ bs) =
     let rest = b ∷ bs in
-    let s = lineStep t (lineOf (upTo 10 rest)) in
+    let s = askedStep t (lineOf (upTo 10 rest)) in
     says n (s .answer) (s .result) ++ runFrom lines (s .table) (n + 1) (past 10 rest)
 
 -- a script that does not start prints one line

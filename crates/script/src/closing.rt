@@ -1,15 +1,16 @@
-// The closing lines put into a lent buffer from a position on. Each function answers the position past what it put.
+// The closing lines put into a lent buffer. Each function answers the position past what it put.
 ghost use mathlib.Core.Path.{_≡_};
+ghost use mathlib.Core.Bool.{true};
 ghost use Prim.Native.Nat.{_+_, _≤_};
 ghost use lib.ListN.{length};
 ghost use lib.Seq.{sets};
 ghost use Rattle.rules.specs.Limits.{mostStations};
-ghost use Rattle.script.specs.Script.{stationLines};
-ghost use Rattle.script.specs.Closing.{closingOf, closingRoom, seatLine};
+ghost use Rattle.table.specs.Sound.{tableSound};
+ghost use Rattle.script.specs.Script.{closing, stationLines};
+ghost use Rattle.script.specs.Closing.{closingRoom, seatLine};
 use crate::printing::put_station;
 use crate::printing::put_total;
 use crate::printing::put_way;
-use rules::answers;
 use station::station::Station;
 use table::table::Table;
 use table::way::at_stations;
@@ -32,13 +33,13 @@ fn put_seat(out: &mut [u8], at: usize, k: usize, s: Station) -> usize
     )
 }
 
-// A line for each station of a table.
-fn put_stations(out: &mut [u8], at: usize, t: Table) -> usize
-    requires { ⌜ (t .count ≤ mostStations) × (at + closingRoom ≤ length (now out)) ⌝ }
-    ensures { λ r. ⌜ (r ≡ at + length (stationLines t (t .count))) × (now (out .exit) ≡ sets (now (out .entry)) at (stationLines t (t .count))) ⌝ }
+// A line for each station of a table, from the start.
+fn put_stations(out: &mut [u8], t: Table) -> usize
+    requires { ⌜ (t .count ≤ mostStations) × (closingRoom ≤ length (now out)) ⌝ }
+    ensures { λ r. ⌜ (r ≡ 0 + length (stationLines t (t .count))) × (now (out .exit) ≡ sets (now (out .entry)) 0 (stationLines t (t .count))) ⌝ }
 {
     let count = t.count;
-    let mut next = at;
+    let mut next: usize = 0;
     let mut k: usize = 0;
     while k < count {
         let s = t.stations[k];
@@ -48,17 +49,14 @@ fn put_stations(out: &mut [u8], at: usize, t: Table) -> usize
     next
 }
 
-// The closing lines of a sound table, and nothing of another.
-pub(crate) fn put_closing(out: &mut [u8], at: usize, t: Table) -> usize
-    requires { ⌜ at + closingRoom ≤ length (now out) ⌝ }
-    ensures { λ r. ⌜ (r ≡ at + length (closingOf t)) × (now (out .exit) ≡ sets (now (out .entry)) at (closingOf t)) ⌝ }
+// The closing lines of a sound table. Answers how many bytes were put.
+pub(crate) fn put_closing(out: &mut [u8], t: Table) -> usize
+    requires { ⌜ (tableSound t ≡ true) × (closingRoom ≤ length (now out)) ⌝ }
+    ensures { λ r. ⌜ (r ≡ length (closing t)) × (now (out .exit) ≡ sets (now (out .entry)) 0 (closing t)) ⌝ }
 {
     let way = on_the_way(t);
-    if way.answer != answers::DONE {
-        return at;
-    }
     let held = at_stations(t);
-    let second = put_stations(out, at, t);
+    let second = put_stations(out, t);
     let third = put_way(out, second, way.result);
     put_total(out, third, held.result + way.result)
 }

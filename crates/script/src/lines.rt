@@ -7,12 +7,8 @@ use crate::words::numeral_of;
 use crate::words::rest_of;
 use crate::words::same_bytes;
 use crate::words::word_of;
+use table::steps::Asked;
 use table::steps::Step;
-
-pub enum Line {
-    NoStep,
-    OneStep(Step),
-}
 
 // What two words read as.
 enum Pair {
@@ -34,38 +30,38 @@ fn pair_of(words: &[u8]) -> Pair
 }
 
 // The step of a word and what stands behind it. The words of one number come first: past them a line without two is none.
-fn line_by(word: &[u8], rest: &[u8]) -> Line
+fn line_by(word: &[u8], rest: &[u8]) -> Asked
     ensures { λ r. ⌜ r ≡ lineBy (now (word .entry)) (now (rest .entry)) ⌝ }
 {
     if same_bytes(word, b"deliver") {
         let Numeral::Reads(place) = numeral_of(rest) else {
-            return Line::NoStep;
+            return Asked::NoStep;
         };
-        return Line::OneStep(Step::Deliver(place));
+        return Asked::OneStep(Step::Deliver(place));
     }
     if same_bytes(word, b"lose") {
         let Numeral::Reads(place) = numeral_of(rest) else {
-            return Line::NoStep;
+            return Asked::NoStep;
         };
-        return Line::OneStep(Step::Lose(place));
+        return Asked::OneStep(Step::Lose(place));
     }
     let Pair::Both(n, k) = pair_of(rest) else {
-        return Line::NoStep;
+        return Asked::NoStep;
     };
     if same_bytes(word, b"add") {
-        return Line::OneStep(Step::Add(n, k));
+        return Asked::OneStep(Step::Add(n, k));
     }
     if same_bytes(word, b"draw") {
-        return Line::OneStep(Step::Draw(n, k));
+        return Asked::OneStep(Step::Draw(n, k));
     }
     if same_bytes(word, b"send") {
-        return Line::OneStep(Step::Send(n, k));
+        return Asked::OneStep(Step::Send(n, k));
     }
-    Line::NoStep
+    Asked::NoStep
 }
 
 // The step that a line asks for.
-pub(crate) fn line_of(line: &[u8]) -> Line
+pub(crate) fn line_of(line: &[u8]) -> Asked
     ensures { λ r. ⌜ r ≡ lineOf (now (line .entry)) ⌝ }
 {
     line_by(word_of(line), rest_of(line))

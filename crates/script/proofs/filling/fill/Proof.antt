@@ -1,55 +1,71 @@
-use native.Mathlib.Omega.{arith}
-use Prim.Native.Nat.{_-_}
+use borrow.Author.Needs.{needs}
+use mathlib.Core.Path.{refl, sym, _∙_}
+use borrow.Author.Tests.{not-true, not-false}
 use denote.Ref.{now}
 use lib.ListN.{length}
-use Rattle.script.proofs.Fills.{all-put, end-turn, may-close, still-open}
-use borrow.Author.Needs.{needs}
+use Rattle.script.proofs.Turns.{fills-by, turn-closes, turn-finished, turn-short, turn-steps, turn-unsound}
 use Rattle.script.proofs.filling.fill.Statement.{statement}
 use Rattle.script.proofs.filling.fill.Tie as tie
 
+run-is-sound-requires : tie.Need-run-is-sound-requires
+run-is-sound-requires c κs = search needs
+
+stay-requires : tie.Need-stay-requires
+stay-requires c κs = search needs
+
+returns : tie.Need-returns
+returns c = let a = c .before .before .before .before .before .args in fills-by (now (a .script)) (a .run) (now (a .out)) (turn-unsound (now (a .script)) (a .run) (length (now (a .out))) (sym (c .before .before .run-is-sound .ensures) ∙ not-true _ (c .before .if1 .taken))) (c .stay .ensures) refl
+
+stay-requires-2 : tie.Need-stay-requires-2
+stay-requires-2 c κs = search needs
+
+returns-2 : tie.Need-returns-2
+returns-2 c = let a = c .before .before .before .before .before .before .args in fills-by (now (a .script)) (a .run) (now (a .out)) (turn-short (now (a .script)) (a .run) (length (now (a .out))) (sym (c .before .before .before .run-is-sound .ensures) ∙ not-false _ (c .before .before .if1 .left)) (c .before .if2 .taken)) (c .stay2 .ensures) refl
+
+stay-requires-3 : tie.Need-stay-requires-3
+stay-requires-3 c κs = search needs
+
+returns-3 : tie.Need-returns-3
+returns-3 c = let a = c .before .before .before .before .before .before .before .args in fills-by (now (a .script)) (a .run) (now (a .out)) (turn-finished (now (a .script)) (a .run) (length (now (a .out))) (sym (c .before .before .before .before .run-is-sound .ensures) ∙ not-false _ (c .before .before .before .if1 .left)) (c .before .before .if2 .left) (c .before .if3 .taken)) (c .stay3 .ensures) refl
+
 put-steps-requires : tie.Need-put-steps-requires
-put-steps-requires c κs = search needs
-
-sub-if1 : tie.Need-sub-if1
-sub-if1 c = search needs
-
-put-end-requires : tie.Need-put-end-requires
-put-end-requires c κs =
-    let script = now (c .before .before .before .before .before .before .before .before .before .before .before .args .script) in
-    let steps = c .before .before .before .before .before .before .before .put-steps in
-    let next = steps .result in
-    let bytes = steps .last .1 .1 .0 in
-    let ends = may-close (next .finished) (next .at) (length script) (length bytes - next .size) (c .before .if1 .taken) in
-    omega (arith, ends .2, steps .ensures .0 .room)
+put-steps-requires c κs = sym (c .before .before .before .before .before .before .run-is-sound .ensures) ∙ not-false _ (c .before .before .before .before .before .if1 .left)
 
 same-length : tie.Need-same-length
 same-length c = search needs
 
-returns : tie.Need-returns
-returns c =
-    let script = now (c .before .before .before .before .before .before .before .before .before .before .before .before .before .before .args .script) in
-    let steps = c .before .before .before .before .before .before .before .before .before .before .put-steps in
-    let next = steps .result in
-    let bytes = steps .last .1 .1 .0 in
-    let ends = may-close (next .finished) (next .at) (length script) (length bytes - next .size) (c .before .before .before .before .if1 .taken) in
-    (end-turn script _ next bytes (steps .ensures .0) (ends .0) (ends .1) (omega (arith, ends .2, steps .ensures .0 .room)) (c .before .before .put-end .ensures), λ going counts. absurd (all-put next (c .before .before .put-end .ensures .0) going))
+returns-4 : tie.Need-returns-4
+returns-4 c =
+    let a = c .before .before .before .before .before .before .before .before .before .before .before .before .args in
+    let turn = turn-steps (now (a .script)) (a .run) (length (now (a .out))) (sym (c .before .before .before .before .before .before .before .before .before .run-is-sound .ensures) ∙ not-false _ (c .before .before .before .before .before .before .before .before .if1 .left)) (c .before .before .before .before .before .before .before .if2 .left) (c .before .before .before .before .before .before .if3 .left) (c .before .before .before .before .if4 .taken) in
+    fills-by (now (a .script)) (a .run) (now (a .out)) turn (c .before .before .put-steps .ensures .0) (c .before .before .put-steps .ensures .1)
+
+put-end-requires : tie.Need-put-end-requires
+put-end-requires c κs = (sym (c .before .before .before .before .before .before .run-is-sound .ensures) ∙ not-false _ (c .before .before .before .before .before .if1 .left), c .before .before .before .before .if2 .left)
 
 same-length-2 : tie.Need-same-length-2
 same-length-2 c = search needs
 
-returns-2 : tie.Need-returns-2
-returns-2 c =
-    let steps = c .before .before .before .before .before .before .put-steps in
-    (steps .ensures .0, still-open (now (c .before .before .before .before .before .before .before .before .before .before .args .script)) (steps .result) (steps .last .1 .1 .0) (steps .ensures .0 .room) (steps .ensures .1) (c .if1 .left))
+returns-5 : tie.Need-returns-5
+returns-5 c =
+    let a = c .before .before .before .before .before .before .before .before .before .before .before .before .args in
+    let turn = turn-closes (now (a .script)) (a .run) (length (now (a .out))) (sym (c .before .before .before .before .before .before .before .before .before .run-is-sound .ensures) ∙ not-false _ (c .before .before .before .before .before .before .before .before .if1 .left)) (c .before .before .before .before .before .before .before .if2 .left) (c .before .before .before .before .before .before .if3 .left) (c .before .before .before .before .if4 .left) in
+    fills-by (now (a .script)) (a .run) (now (a .out)) turn (c .before .before .put-end .ensures .0) (c .before .before .put-end .ensures .1)
 
 pub fill-spec : {M : Type 1} → statement M
 fill-spec =
     tie.close
     (tie.spec
-    put-steps-requires
-    sub-if1
-    put-end-requires
-    same-length
+    run-is-sound-requires
+    stay-requires
     returns
+    stay-requires-2
+    returns-2
+    stay-requires-3
+    returns-3
+    put-steps-requires
+    same-length
+    returns-4
+    put-end-requires
     same-length-2
-    returns-2)
+    returns-5)

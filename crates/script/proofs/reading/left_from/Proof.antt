@@ -1,8 +1,8 @@
 use Rattle.script.proofs.Cutting.{left-all, left-none}
 use borrow.Author.Needs.{needs}
 use denote.Ref.{now}
-use Rattle.script.proofs.running.left_from.Statement.{statement}
-use Rattle.script.proofs.running.left_from.Tie as tie
+use Rattle.script.proofs.reading.left_from.Statement.{statement}
+use Rattle.script.proofs.reading.left_from.Tie as tie
 
 sub-result : tie.Need-sub-result
 sub-result c = search needs

@@ -3,8 +3,8 @@ use native.Mathlib.Omega.{arith}
 use borrow.Author.Tests.{lt-ltb, le-ltb}
 use lib.ListN.{length, length-drop}
 use borrow.Author.Needs.{needs}
-use Rattle.script.proofs.running.past_line.Statement.{statement}
-use Rattle.script.proofs.running.past_line.Tie as tie
+use Rattle.script.proofs.reading.past_line.Statement.{statement}
+use Rattle.script.proofs.reading.past_line.Tie as tie
 
 left-from-requires : tie.Need-left-from-requires
 left-from-requires c κs = search needs

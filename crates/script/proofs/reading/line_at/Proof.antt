@@ -1,7 +1,7 @@
 use Rattle.script.proofs.Cutting.{front, front-length}
 use borrow.Author.Needs.{needs}
-use Rattle.script.proofs.running.line_at.Statement.{statement}
-use Rattle.script.proofs.running.line_at.Tie as tie
+use Rattle.script.proofs.reading.line_at.Statement.{statement}
+use Rattle.script.proofs.reading.line_at.Tie as tie
 
 left-from-requires : tie.Need-left-from-requires
 left-from-requires c κs = search needs

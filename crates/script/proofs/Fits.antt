@@ -1,0 +1,81 @@
+-- What a turn puts fits the buffer: the first bytes of the buffer, as many as the result says, are the bytes put. Assumes nothing.
+use Prim.Native.Nat.{ℕ, _+_, _*_, _≤_, _<_}
+use mathlib.Core.Path.{_≡_, refl}
+use mathlib.Core.Bool.{Bool, true, false}
+use mathlib.Core.List.{List, [], _∷_, _++_}
+use mathlib.Core.Logic.{⊎-elim}
+use native.Mathlib.Omega.{arith}
+use borrow.Author.Tests.{le-ltb}
+use lib.ListN.{length, take, length-append}
+use Rattle.table.specs.declared.steps.Asked.{Asked}
+use Rattle.table.specs.declared.table.Table.{Table}
+use Rattle.table.specs.Running.{askedStep}
+use Rattle.table.specs.Sound.{tableSound}
+use Rattle.table.specs.Way.{atStations, onTheWay}
+use Rattle.table.proofs.Tables.{table-parts}
+use Rattle.script.specs.declared.filling.Filled.{Filled}
+use Rattle.script.specs.declared.starting.Put.{Put}
+use Rattle.script.specs.declared.starting.Run.{Run}
+use Rattle.script.specs.Decimal.{totalLine, wayLine}
+use Rattle.script.specs.Script.{closing, stationLines}
+use Rattle.script.specs.Closing.{closingRoom}
+use Rattle.script.specs.Reading.{linesFrom}
+use Rattle.script.specs.Telling.{saidFor}
+use Rattle.script.specs.Starting.{answerLine, PutsAnswer, stepRoom}
+use Rattle.script.specs.Filling.{atOnce, Fills, runSound, turnOf}
+use Rattle.script.proofs.Lengths.{length-says, length-total, length-way}
+use Rattle.script.proofs.Puts.{put-first}
+use Rattle.script.proofs.Closings.{length-stations}
+use Rattle.script.proofs.Readings.{below-or-not, lines-few}
+use Rattle.script.proofs.Turns.{table-sound, turn-closes, turn-finished, turn-short, turn-steps, turn-unsound}
+
+said-fits : (n : ℕ) (t : Table) (xs : List Asked) → length (saidFor n t xs) ≤ 63 * length xs
+unfolding saidFor
+said-fits n t [] = omega arith
+said-fits n t (x ∷ xs) = let s = askedStep t x in rw length-append (omega (arith, length-says n (s .answer) (s .result), said-fits (n + 1) (s .table) xs))
+
+closing-fits : (t : Table) → tableSound t ≡ true → length (closing t) ≤ closingRoom
+closing-fits t e =
+    let lines = stationLines t (t .count) in
+    let way = onTheWay t in
+    let total = atStations t + onTheWay t in
+    rw (length-append (lines ++ wayLine way) (totalLine total), length-append lines (wayLine way))
+    (omega (arith, table-parts t e .most, length-stations t (t .count), length-way way, length-total total))
+
+module _ (script : List ℕ) (run : Run) (room : ℕ) where
+  module _ (e : runSound run ≡ true) (wide : closingRoom ≤ room) where
+    open-fits : run .finished ≡ false → length (turnOf script run room .bytes) ≤ room
+    open-fits f =
+        let most = atOnce room in
+        let xs = linesFrom most script (run .at) in
+        let few : length xs ≤ most = lines-few most script (run .at) in
+        ⊎-elim
+        (λ (h : run .at < length script). rw (turn-steps script run room e wide f h) (omega (arith, said-fits (run .number) (run .table) xs)))
+        (λ (h : length script ≤ run .at). rw (turn-closes script run room e wide f h) (omega (arith, closing-fits (run .table) (table-sound run e .0))))
+        (below-or-not (run .at) (length script))
+
+    by-finished : (b : Bool) → run .finished ≡ b → length (turnOf script run room .bytes) ≤ room
+    by-finished true f = rw (turn-finished script run room e wide f) (omega arith)
+    by-finished false f = open-fits f
+
+  by-sound : (b : Bool) → runSound run ≡ b → length (turnOf script run room .bytes) ≤ room
+  by-sound true e =
+      ⊎-elim
+      (λ (h : room < closingRoom). rw (turn-short script run room e h) (omega arith))
+      (λ (wide : closingRoom ≤ room). by-finished e wide (run .finished) refl)
+      (below-or-not room closingRoom)
+  by-sound false e = rw (turn-unsound script run room e) (omega arith)
+
+  pub turn-fits : length (turnOf script run room .bytes) ≤ room
+  turn-fits = by-sound (runSound run) refl
+
+-- the first bytes of a buffer that was filled, and of one that the line of a refused script was put into
+pub filled-first : (script : List ℕ) (run : Run) (out : List ℕ) {r : Filled} {later : List ℕ} → Fills script run out r later → take (r .result) later ≡ turnOf script run (length out) .bytes
+filled-first script run out f =
+    let turn = turnOf script run (length out) in
+    rw (f .filled, f .lent) (put-first out (turn .bytes) (length (turn .bytes)) refl (turn-fits script run (length out)))
+
+pub answer-first : (answer : ℕ) (out : List ℕ) {r : Put} {later : List ℕ} → stepRoom ≤ length out → PutsAnswer answer out r later → take (r .result) later ≡ answerLine answer
+answer-first answer out h p =
+    let line = answerLine answer in
+    rw (p .put, p .lent, le-ltb (length out) stepRoom h) (put-first out line (length line) refl (omega (arith, length-says 0 answer 0)))

@@ -1,0 +1,58 @@
+-- What starting a script does, and the line of a script that is refused.
+use Prim.Native.Nat.{ℕ, zero, suc}
+use mathlib.Core.Path.{_≡_}
+use mathlib.Core.Bool.{true, false, cond}
+use mathlib.Core.List.{List, []}
+use lib.Dec.{ltb}
+use lib.ListN.{length}
+use lib.Seq.{sets}
+use Rattle.rules.specs.Answers.{done, badLine, longScript, shortBuffer}
+use Rattle.table.specs.declared.stepping.Stepped.{Stepped}
+use Rattle.table.specs.Fresh.{blankTable, freshOf}
+use Rattle.script.specs.declared.words.Numeral.{Numeral}
+use Rattle.script.specs.declared.words.Numeral.the-variants.{Unreadable, Reads}
+use Rattle.script.specs.declared.starting.Started.{Started}
+use Rattle.script.specs.declared.starting.Put.{Put}
+use Rattle.script.specs.Decimal.{says}
+use Rattle.script.specs.Lines.{stationsOf}
+use Rattle.script.specs.Script.{mostBytes}
+use Rattle.script.specs.Reading.{lineAt, pastLine}
+
+-- a refused script hands back every number 0 and nothing held
+abbrev pub notStarted : ℕ → Started
+notStarted answer = record { answer = answer; result = 0; run = record { table = blankTable 0; at = 0; number = 0; finished = true } }
+
+-- steps are numbered from 1, and their lines start at a position
+abbrev pub startWith : Stepped → ℕ → Started
+startWith made at = startBy (made .answer)
+  where
+    startBy : ℕ → Started
+    startBy zero = record { answer = done; result = 0; run = record { table = made .table; at = at; number = 1; finished = false } }
+    startBy (suc n) = notStarted (suc n)
+
+abbrev pub startFor : Numeral → ℕ → Started
+startFor Unreadable at = notStarted badLine
+startFor (Reads count) at = startWith (freshOf count) at
+
+-- refused by 13, 12, 1
+unfoldable pub startedOf : List ℕ → Started
+startedOf script = cond (ltb mostBytes (length script)) (notStarted longScript) (startFor (stationsOf (lineAt script 0)) (pastLine script 0))
+
+-- `0 13 0` and its like
+abbrev pub answerLine : ℕ → List ℕ
+answerLine answer = says 0 answer 0
+
+-- room for the longest line of a step
+abbrev pub stepRoom : ℕ
+stepRoom = 64
+
+-- refused by 14: then no byte is put
+abbrev pub answerPut : ℕ → List ℕ → List ℕ
+answerPut answer out = cond (ltb (length out) stepRoom) [] (answerLine answer)
+
+abbrev pub putOf : ℕ → List ℕ → Put
+putOf answer out = record { answer = cond (ltb (length out) stepRoom) shortBuffer done; result = length (answerPut answer out) }
+
+pub record PutsAnswer (answer : ℕ) (out : List ℕ) (r : Put) (later : List ℕ) : Type 0 where
+  pub put : r ≡ putOf answer out
+  pub lent : later ≡ sets out 0 (answerPut answer out)

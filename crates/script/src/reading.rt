@@ -1,0 +1,121 @@
+// A script's lines, found by the position that they start at, and read into numbers: three for each line.
+ghost use mathlib.Core.Path.{_≡_};
+ghost use Prim.Native.Nat.{_+_, _*_, _≤_};
+ghost use lib.ListN.{length, drop};
+ghost use lib.Seq.{sets};
+ghost use Rattle.table.specs.Running.{numbersFor};
+ghost use Rattle.script.specs.Reading.{codeNumbers, lineAt, linesFrom, numbersOf, pastLine, readOf};
+use crate::lines::line_of;
+use crate::words::index_of;
+use table::steps::Asked;
+use table::steps::Step;
+
+// What is left of a script from a position on.
+fn left_from(script: &[u8], at: usize) -> &[u8]
+    ensures { λ r. ⌜ now r ≡ drop at (now (script .entry)) ⌝ }
+{
+    if at < script.len() {
+        return &script[at..];
+    }
+    &script[..0]
+}
+
+// The line that starts at a position, without its line end.
+pub(crate) fn line_at(script: &[u8], at: usize) -> &[u8]
+    ensures { λ r. ⌜ now r ≡ lineAt (now (script .entry)) at ⌝ }
+{
+    let rest = left_from(script, at);
+    let end = index_of(10, rest);
+    &rest[..end]
+}
+
+// The position past the line that starts at a position.
+pub(crate) fn past_line(script: &[u8], at: usize) -> usize
+    ensures { λ r. ⌜ r ≡ pastLine (now (script .entry)) at ⌝ }
+{
+    let rest = left_from(script, at);
+    let end = index_of(10, rest);
+    if end < rest.len() {
+        return at + end + 1;
+    }
+    script.len()
+}
+
+// The three numbers that name what is asked for.
+struct Code {
+    kind: u64,
+    first: u64,
+    second: u64,
+}
+
+// The numbers of a step, or of none.
+fn code_of(asked: Asked) -> Code
+    ensures { λ r. ⌜ codeNumbers r ≡ numbersFor asked ⌝ }
+{
+    let Asked::OneStep(step) = asked else {
+        return Code {
+            kind: 5,
+            first: 0,
+            second: 0,
+        };
+    };
+    match step {
+        Step::Add(k, amount) => Code {
+            kind: 0,
+            first: k,
+            second: amount,
+        },
+        Step::Draw(k, amount) => Code {
+            kind: 1,
+            first: k,
+            second: amount,
+        },
+        Step::Send(from, to) => Code {
+            kind: 2,
+            first: from,
+            second: to,
+        },
+        Step::Deliver(place) => Code {
+            kind: 3,
+            first: place,
+            second: 0,
+        },
+        Step::Lose(place) => Code {
+            kind: 4,
+            first: place,
+            second: 0,
+        },
+    }
+}
+
+// The numbers of what is asked for, put from a place on.
+fn put_asked(codes: &mut [u64], at: usize, asked: Asked)
+    requires { ⌜ at + 3 ≤ length (now codes) ⌝ }
+    ensures { λ _. ⌜ now (codes .exit) ≡ sets (now (codes .entry)) at (numbersFor asked) ⌝ }
+{
+    let code = code_of(asked);
+    codes[at] = code.kind;
+    codes[at + 1] = code.first;
+    codes[at + 2] = code.second;
+}
+
+// How many lines were read, and the position past them.
+pub struct Read {
+    pub lines: usize,
+    pub at: usize,
+}
+
+// Up to so many lines from a position on.
+pub(crate) fn read_lines(script: &[u8], start: usize, most: usize, codes: &mut [u64]) -> Read
+    requires { ⌜ 3 * most ≤ length (now codes) ⌝ }
+    ensures { λ r. ⌜ (r ≡ readOf most (now (script .entry)) start) × (now (codes .exit) ≡ sets (now (codes .entry)) 0 (numbersOf (linesFrom most (now (script .entry)) start))) ⌝ }
+{
+    let mut at = start;
+    let mut lines: usize = 0;
+    while (lines < most) & (at < script.len()) {
+        put_asked(codes, 3 * lines, line_of(line_at(script, at)));
+        at = past_line(script, at);
+        lines = lines + 1;
+    }
+    Read { lines, at }
+}
