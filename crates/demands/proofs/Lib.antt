@@ -4,3 +4,4 @@ pub mod Settled
 pub mod WrongsOut
 pub mod Shared
 pub mod PrintedRun
+pub mod NamedCases

@@ -10,3 +10,4 @@ pub mod Settled
 pub mod PrintedRun
 pub mod WrongParts
 pub mod WrongExports
+pub mod NamedCases
