@@ -16,3 +16,4 @@ pub mod Demand3
 pub mod WorkedRun
 pub mod Teeth
 pub mod RightParts
+pub mod Tested
