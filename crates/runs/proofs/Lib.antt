@@ -17,3 +17,4 @@ pub mod WorkedRun
 pub mod Teeth
 pub mod RightParts
 pub mod Tested
+pub mod EachTooth

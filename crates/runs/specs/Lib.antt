@@ -5,3 +5,4 @@ pub mod Builds
 pub mod Broken
 pub mod Clauses
 pub mod Tested
+pub mod BrokenAlone

@@ -4,7 +4,7 @@ use mathlib.Core.Bool.{Bool, true, false, _&&_, _||_, not}
 use mathlib.Core.List.{List, [], _∷_}
 use mathlib.Core.Option.{Option, none, some}
 use lib.Dec.{eqb}
-use lib.ListN.{length}
+use lib.ListN.{length, getD}
 use Rattle.handshake.specs.Channel.{Held}
 use Rattle.handshake.specs.History.{Transfer, Entry, departure, arrival, at, departed, arrived}
 use Rattle.station.specs.Answers.{notSound, valueLimit}
@@ -96,3 +96,21 @@ test way build t steps =
 test sound build t steps = tableSound (tableAfter build t steps)
 test answers build t steps = answeredTest (logOf build t steps)
 test stale build t steps = staleTest build t steps
+
+-- the clauses in a row, and the place of each
+abbrev pub clauses : List Clause
+clauses = passes ∷ departed-before ∷ one-departure ∷ one-arrival ∷ way ∷ sound ∷ answers ∷ stale ∷ []
+
+abbrev pub placeOf : Clause → ℕ
+placeOf passes = 0
+placeOf departed-before = 1
+placeOf one-departure = 2
+placeOf one-arrival = 3
+placeOf way = 4
+placeOf sound = 5
+placeOf answers = 6
+placeOf stale = 7
+
+-- all but one
+abbrev pub othersTest : Clause → Build → Table → List Step → Bool
+othersTest clause build t steps = allBelow (λ n. test (getD clauses n stale) build t steps || eqb n (placeOf clause)) 8
