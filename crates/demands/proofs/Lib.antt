@@ -5,3 +5,4 @@ pub mod WrongsOut
 pub mod Shared
 pub mod PrintedRun
 pub mod NamedCases
+pub mod WorkedScript

@@ -11,3 +11,4 @@ pub mod PrintedRun
 pub mod WrongParts
 pub mod WrongExports
 pub mod NamedCases
+pub mod WorkedScript
