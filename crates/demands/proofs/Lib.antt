@@ -6,3 +6,4 @@ pub mod Shared
 pub mod PrintedRun
 pub mod NamedCases
 pub mod WorkedScript
+pub mod Done

@@ -12,3 +12,4 @@ pub mod WrongParts
 pub mod WrongExports
 pub mod NamedCases
 pub mod WorkedScript
+pub mod Done

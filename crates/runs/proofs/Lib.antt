@@ -18,3 +18,4 @@ pub mod Teeth
 pub mod RightParts
 pub mod Tested
 pub mod EachTooth
+pub mod Again

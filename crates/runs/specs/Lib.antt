@@ -6,3 +6,4 @@ pub mod Broken
 pub mod Clauses
 pub mod Tested
 pub mod BrokenAlone
+pub mod Again
