@@ -13,3 +13,4 @@ pub mod WrongExports
 pub mod NamedCases
 pub mod WorkedScript
 pub mod Done
+pub mod Lent
