@@ -19,3 +19,4 @@ pub mod RightParts
 pub mod Tested
 pub mod EachTooth
 pub mod Again
+pub mod Pairs
