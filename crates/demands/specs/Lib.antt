@@ -14,3 +14,4 @@ pub mod NamedCases
 pub mod WorkedScript
 pub mod Done
 pub mod Lent
+pub mod BoundCases
