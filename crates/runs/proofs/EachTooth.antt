@@ -24,7 +24,7 @@ use Rattle.runs.specs.BrokenAlone.{slotGone, slotDropped, comesAgain}
 use Rattle.runs.specs.Clauses.{Clause, passes, departed-before, one-departure, one-arrival, way, sound, answers, stale, FailsAlone}
 use Rattle.runs.specs.Tested.{anyBelow, answeredTest, staleTest}
 use Rattle.runs.specs.Worked.{five}
-use Rattle.runs.proofs.Tested.{alone}
+use Rattle.runs.proofs.Alone.{alone}
 
 -- 10 were added and 20 are said to be drawn
 pub passes-alone : FailsAlone passes inventedDraw (freshOf 2 .table) overdrawn

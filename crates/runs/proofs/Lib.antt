@@ -17,6 +17,7 @@ pub mod WorkedRun
 pub mod Teeth
 pub mod RightParts
 pub mod Tested
+pub mod Alone
 pub mod EachTooth
 pub mod Again
 pub mod Pairs

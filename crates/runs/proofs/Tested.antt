@@ -7,7 +7,7 @@ use mathlib.Core.Logic.{_≢_}
 use mathlib.Core.Option.{Option, none, some}
 use native.Mathlib.Omega.{arith}
 use lib.Dec.{eqb}
-use lib.ListN.{length, getD}
+use lib.ListN.{length}
 use borrow.Author.Tests.{eqb-true, eqb-false, eq-eqb, not-true}
 use Rattle.handshake.specs.Channel.{Held}
 use Rattle.handshake.specs.History.{Transfer, Entry, transfer, departure, arrival, at, Belong}
@@ -25,9 +25,9 @@ use Rattle.table.specs.declared.table.Table.{Table}
 use Rattle.runs.specs.Runs.{Build, Line, logOf, tableAfter, historyOf, amounting}
 use Rattle.runs.specs.Demand3.{waitsFor, Demand3}
 use Rattle.runs.specs.Clauses.{Clause, passes, departed-before, one-departure, one-arrival, way, sound, answers, stale}
-use Rattle.runs.specs.Clauses.{DepartedBefore, OnlyOne, Answered, NeverLands, says, FailsAlone}
+use Rattle.runs.specs.Clauses.{DepartedBefore, OnlyOne, Answered, NeverLands, says}
 use Rattle.runs.specs.Tested.{anyBelow, departureIn, arrivalIn, belongs, belongIn, sameIn, departedBy, departedBeforeTest, apart, onlyOneTest}
-use Rattle.runs.specs.Tested.{answeredTest, mayLand, landsBy, neverLandsTest, staleTest, test, clauses, placeOf, othersTest}
+use Rattle.runs.specs.Tested.{answeredTest, mayLand, landsBy, neverLandsTest, staleTest, test}
 
 -- every run keeps every clause exactly if demand 3 holds
 pub by-clauses : (build : Build) (t : Table) → ((clause : Clause) (steps : List Step) → says clause build t steps) → Demand3 build t
@@ -61,7 +61,7 @@ there (y ∷ xs) zero x e = omega arith
 there (y ∷ xs) (suc i) x e = let h = there xs i x e in omega arith
 
 -- a test that one of two holds, where the other does not
-other-one : (a b : Bool) → (a || b) ≡ true → (b ≡ true → false ≡ true) → a ≡ true
+pub other-one : (a b : Bool) → (a || b) ≡ true → (b ≡ true → false ≡ true) → a ≡ true
 other-one true b e f = refl
 other-one false b e f = f e
 
@@ -166,38 +166,3 @@ tested way build t steps e = eqb-true _ _ e
 tested sound build t steps e = e
 tested answers build t steps e = answered-tested (logOf build t steps) e
 tested stale build t steps e = stale-tested build t steps e
-
-listed : (clause : Clause) → getD clauses (placeOf clause) stale ≡ clause
-listed passes = refl
-listed departed-before = refl
-listed one-departure = refl
-listed one-arrival = refl
-listed way = refl
-listed sound = refl
-listed answers = refl
-listed stale = refl
-
-placed : (clause : Clause) → placeOf clause < 8
-placed passes = omega arith
-placed departed-before = omega arith
-placed one-departure = omega arith
-placed one-arrival = omega arith
-placed way = omega arith
-placed sound = omega arith
-placed answers = omega arith
-placed stale = omega arith
-
-same-place : (a b : Clause) → placeOf a ≡ placeOf b → a ≡ b
-same-place a b e = sym (listed a) ∙ ap (λ (n : ℕ). getD clauses n stale) e ∙ listed b
-
--- a run that fails one clause and passes the tests of all others
-pub alone : (clause : Clause) (build : Build) (t : Table) (steps : List Step) → othersTest clause build t steps ≡ true → (says clause build t steps → ⊥)
-    → FailsAlone clause build t steps
-alone clause build t steps e f = record { fails = f; others = λ other apart. others other apart }
-  where
-    others : (other : Clause) → other ≢ clause → says other build t steps
-    others other apart =
-        let at-place = all-at (λ n. test (getD clauses n stale) build t steps || eqb n (placeOf clause)) 8 (placeOf other) e (placed other) in
-        let here : (test other build t steps || eqb (placeOf other) (placeOf clause)) ≡ true = rw (listed other) at at-place in
-        tested other build t steps
-        (other-one (test other build t steps) _ here (λ z. absurd (apart (same-place other clause (eqb-true _ _ z)))))
