@@ -4,3 +4,6 @@ pub mod Settled
 pub mod WrongsOut
 pub mod Shared
 pub mod PrintedRun
+pub mod NamedCases
+pub mod WorkedScript
+pub mod Done

@@ -10,3 +10,8 @@ pub mod Settled
 pub mod PrintedRun
 pub mod WrongParts
 pub mod WrongExports
+pub mod NamedCases
+pub mod WorkedScript
+pub mod Done
+pub mod Lent
+pub mod BoundCases

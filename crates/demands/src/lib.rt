@@ -1,1 +1,2 @@
-// No code: what the promises of the other crates come to, as theorems about their definitions.
+// What the promises of the other crates come to, as theorems about their definitions. The only code is that of `lent`, which nobody calls.
+mod lent;

@@ -11,3 +11,4 @@ pub mod Exact
 pub mod Printed
 pub mod Showing
 pub mod Receiving
+pub mod WriteRead

@@ -16,3 +16,8 @@ pub mod Demand3
 pub mod WorkedRun
 pub mod Teeth
 pub mod RightParts
+pub mod Tested
+pub mod Alone
+pub mod EachTooth
+pub mod Again
+pub mod Pairs

@@ -25,7 +25,7 @@ use Rattle.runs.specs.Runs.{Build}
 use Rattle.runs.specs.Builds.{Taking, Drawing, takesBy, deliversBy, deliversUnasked, drawsBy}
 
 -- the steps up to here: station 0 has 10 and shows it, station 1 opens slot (0,0) of 5 and shows that, at place 1
-abbrev slotShown : List Step
+abbrev pub slotShown : List Step
 slotShown = Add 0 10 ∷ Send 0 1 ∷ Deliver 0 ∷ Send 1 0 ∷ []
 
 -- 1. Fill by one clock: only the source clock is matched.

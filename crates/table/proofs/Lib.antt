@@ -17,3 +17,4 @@ pub mod LentPool
 pub mod LentBridge
 pub mod LentSame
 pub mod FreshSound
+pub mod Lowest

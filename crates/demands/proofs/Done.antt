@@ -1,0 +1,21 @@
+-- Every answer of the list is 0. Assumes nothing.
+use mathlib.Core.Path.{_≡_, refl}
+use lib.ListN.{length, replicate}
+use Rattle.handshake.specs.Sums.{sumBelow}
+use Rattle.station.specs.Below.{allBelow}
+use Rattle.station.specs.Sound.{stationSound, messageSound}
+use Rattle.station.specs.Taking.{takeOf}
+use Rattle.station.specs.Steps.{freshOf as freshStation, addOf, drawOf, showOf, receiveOf}
+use Rattle.record.specs.Numbers.{big, numberAt}
+use Rattle.record.specs.Layout.{bytesOf}
+use Rattle.record.specs.Reading.{fieldAt, isRecord, readAt}
+use Rattle.record.specs.AtStation.{receiveBytesOf}
+use Rattle.table.specs.Table.{firstFrom}
+use Rattle.table.specs.Sound.{tableSound}
+use Rattle.table.specs.Fresh.{seatsTo, freshOf}
+use Rattle.table.specs.Steps.{planOf, stepOf}
+use Rattle.demands.specs.Done.{doneAnswers}
+
+pub all-done : doneAnswers ≡ replicate (length doneAnswers) 0
+unfolding freshStation addOf drawOf showOf receiveOf takeOf stationSound messageSound allBelow bytesOf big numberAt fieldAt isRecord readAt receiveBytesOf firstFrom tableSound seatsTo freshOf planOf stepOf sumBelow
+all-done = refl

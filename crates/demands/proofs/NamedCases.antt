@@ -1,0 +1,28 @@
+-- Every named case, and every case at a bound, gives what it has to give. Assumes nothing.
+use mathlib.Core.Path.{_≡_, refl}
+use mathlib.Core.List.{map}
+use Rattle.handshake.specs.Sums.{sumBelow}
+use Rattle.station.specs.Below.{allBelow}
+use Rattle.station.specs.Sound.{stationSound, messageSound}
+use Rattle.station.specs.Taking.{takeOf}
+use Rattle.station.specs.Steps.{addOf, drawOf, showOf, receiveOf}
+use Rattle.record.specs.Numbers.{big, numberAt}
+use Rattle.record.specs.Layout.{bytesOf}
+use Rattle.record.specs.Reading.{fieldAt, isRecord, readAt}
+use Rattle.record.specs.AtStation.{receiveBytesOf}
+use Rattle.table.specs.Table.{firstFrom}
+use Rattle.table.specs.Sound.{tableSound}
+use Rattle.table.specs.Fresh.{seatsTo, freshOf}
+use Rattle.table.specs.Steps.{planOf, stepOf}
+use Rattle.runs.specs.Runs.{logOf}
+use Rattle.demands.specs.Cases.{Case}
+use Rattle.demands.specs.BoundCases.{boundCases}
+use Rattle.demands.specs.NamedCases.{namedCases}
+
+pub named-cases-hold : map (λ (c : Case). c .gives) namedCases ≡ map (λ (c : Case). c .wanted) namedCases
+unfolding showOf receiveOf takeOf stationSound messageSound allBelow bytesOf big numberAt fieldAt isRecord readAt receiveBytesOf firstFrom tableSound seatsTo freshOf planOf stepOf logOf
+named-cases-hold = refl
+
+pub bound-cases-hold : map (λ (c : Case). c .gives) boundCases ≡ map (λ (c : Case). c .wanted) boundCases
+unfolding addOf drawOf receiveOf takeOf stationSound messageSound allBelow tableSound seatsTo freshOf planOf stepOf sumBelow
+bound-cases-hold = refl

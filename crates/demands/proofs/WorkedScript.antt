@@ -1,0 +1,20 @@
+-- The worked script, as its own bytes, prints the printed output, as its own bytes. Assumes nothing.
+use mathlib.Core.Path.{_≡_, refl}
+use Rattle.handshake.specs.Sums.{sumBelow}
+use Rattle.station.specs.Below.{allBelow}
+use Rattle.station.specs.Sound.{stationSound, messageSound}
+use Rattle.station.specs.Taking.{takeOf}
+use Rattle.station.specs.Steps.{addOf, drawOf, showOf, receiveOf}
+use Rattle.table.specs.Table.{firstFrom}
+use Rattle.table.specs.Sound.{tableSound}
+use Rattle.table.specs.Fresh.{seatsTo, freshOf}
+use Rattle.table.specs.Steps.{planOf, stepOf}
+use Rattle.script.specs.Words.{numeralOf}
+use Rattle.script.specs.Lines.{lineOf, stationsOf}
+use Rattle.script.specs.Decimal.{digitsBy}
+use Rattle.script.specs.Script.{stationLines, runFrom, outputOf}
+use Rattle.demands.specs.WorkedScript.{scriptBytes, printedBytes}
+
+pub worked-bytes : outputOf scriptBytes ≡ printedBytes
+unfolding addOf drawOf showOf receiveOf takeOf stationSound messageSound allBelow firstFrom tableSound seatsTo freshOf planOf stepOf sumBelow outputOf stationsOf numeralOf lineOf runFrom stationLines digitsBy
+worked-bytes = refl

@@ -1,0 +1,72 @@
+-- Written and read: the first bytes of a buffer after a write that was done, as many as its result says, read back as the message; and bytes that were
+-- lent to a reading and accepted are what writing their message gives. Assumes nothing.
+use Prim.Native.Nat.{ℕ, zero, suc}
+use mathlib.Core.Path.{_≡_, refl, sym}
+use mathlib.Core.Bool.{true, not}
+use mathlib.Core.List.{List}
+use native.Mathlib.Omega.{arith}
+use lib.ListN.{length, getD, take, drop}
+use lib.Seq.{take-append-seam}
+use borrow.Author.Tests.{not-false}
+use mir.Syntax.{w8}
+use mir.Val.{Fits}
+use Rattle.station.specs.declared.station.Station.{Station}
+use Rattle.station.specs.declared.message.Message.{Message}
+use Rattle.station.specs.Outcome.{orElse}
+use Rattle.station.specs.Sound.{messageSound}
+use Rattle.station.specs.Steps.{showAnswer, messageFor}
+use Rattle.station.proofs.Answering.{passed}
+use Rattle.station.proofs.Keeps.{message-sound}
+use Rattle.record.specs.declared.reading.Reading.{Reading}
+use Rattle.record.specs.declared.writing.Written.{Written}
+use Rattle.record.specs.Layout.{bytesOf}
+use Rattle.record.specs.Reading.{readOf}
+use Rattle.record.specs.Writing.{Writes, writeAnswer}
+use Rattle.record.specs.AtStation.{writeForAnswer}
+use Rattle.record.proofs.ReadBack.{read-back}
+use Rattle.record.proofs.Exact.{exact}
+
+-- a write that is done puts all its bytes in front, and tells how many
+pub record Put (answer : ℕ) (bytes : List ℕ) (r : Written) (after : List ℕ) : Type 0 where
+  pub done : answer ≡ 0
+  pub result : r .result ≡ length bytes
+  pub front : take (r .result) after ≡ bytes
+
+put : (n : ℕ) (bytes before : List ℕ) (r : Written) (after : List ℕ) → Writes n bytes before r after → r .answer ≡ 0 → Put n bytes r after
+put zero bytes before r after w e =
+    record { done = refl; result = rw (w .told); front = rw (w .told, w .buffer) (take-append-seam bytes (drop (length bytes) before)) }
+put (suc n) bytes before r after w e = let x : suc n ≡ 0 = rw (w .told) at e in absurd (omega arith)
+
+-- what reading the first `result` bytes gives
+abbrev pub ReadsBack : Message → Written → List ℕ → Type 0
+ReadsBack m r after = readOf (take (r .result) after) ≡ record { answer = 0; result = r .result; message = m }
+
+reads-back : (m : Message) (n : ℕ) (r : Written) (after : List ℕ) → messageSound m ≡ true → Put n (bytesOf m) r after → ReadsBack m r after
+reads-back m n r after sound p = rw (p .front, p .result) (read-back m sound)
+
+-- of a given message, with what `write` promises
+pub written-reads-back : (m : Message) (before : List ℕ) (r : Written) (after : List ℕ)
+    → Writes (writeAnswer m (length before)) (bytesOf m) before r after → r .answer ≡ 0 → ReadsBack m r after
+written-reads-back m before r after w e =
+    let p = put (writeAnswer m (length before)) (bytesOf m) before r after w e in
+    reads-back m _ r after (not-false _ (passed (not (messageSound m)) 8 (p .done) .0)) p
+
+shown-first : (n later : ℕ) → orElse n later ≡ 0 → n ≡ 0
+shown-first zero later e = refl
+shown-first (suc n) later e = e
+
+-- of a station's message for another, with what `write_message` promises
+pub message-reads-back : (s : Station) (to : ℕ) (before : List ℕ) (r : Written) (after : List ℕ)
+    → Writes (writeForAnswer s to (length before)) (bytesOf (messageFor s to)) before r after → r .answer ≡ 0 → ReadsBack (messageFor s to) r after
+message-reads-back s to before r after w e =
+    let p = put (writeForAnswer s to (length before)) (bytesOf (messageFor s to)) before r after w e in
+    reads-back (messageFor s to) _ r after (message-sound s to (shown-first (showAnswer s to) _ (p .done))) p
+
+-- What a lent `&[u8]` holds are bytes: this is the type's own fact, which every function that looks into the slice is given (`shared-slice-known`), and asks
+-- nothing of a caller.
+abbrev pub HeldAsU8 : List ℕ → Type 0
+HeldAsU8 bytes = (k : ℕ) → Fits w8 (getD bytes k 0)
+
+-- with what `read` promises
+pub accepted-is-written : (bytes : List ℕ) (r : Reading) → HeldAsU8 bytes → r ≡ readOf bytes → r .answer ≡ 0 → bytesOf (r .message) ≡ bytes
+accepted-is-written bytes r u e z = rw e (sym (exact bytes (λ k. u k .fits) (rw e at z)))

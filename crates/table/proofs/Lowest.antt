@@ -1,0 +1,145 @@
+-- The place that a send takes: it was empty, every place before it holds a message, and a place freed by a loss is used again. Assumes nothing.
+use Prim.Native.Nat.{ℕ, zero, suc, _+_, _<_, _≤_}
+use mathlib.Core.Path.{_≡_, refl, ap}
+use mathlib.Core.Bool.{Bool, true, false}
+use mathlib.Core.List.{List, [], _∷_}
+use native.Mathlib.Omega.{arith}
+use lib.Dec.{ltb}
+use lib.ListN.{set}
+use lib.Seq.{getD-set-other}
+use borrow.Author.Tests.{ltb-true, ltb-false}
+use Rattle.station.specs.declared.message.Message.{Message}
+use Rattle.station.specs.Steps.{showOf}
+use Rattle.table.specs.declared.pool.Waiting.{Waiting}
+use Rattle.table.specs.declared.pool.Waiting.the-variants.{Empty, One}
+use Rattle.table.specs.declared.pool.Place.{Place}
+use Rattle.table.specs.declared.steps.Step.the-variants.{Send, Lose}
+use Rattle.table.specs.declared.stepping.Stepped.{Stepped}
+use Rattle.table.specs.declared.table.Table.{Table}
+use Rattle.table.specs.Table.{mostPlaces, stationAt, placeIn, waitingAt, isEmpty, firstFrom, lowestEmpty}
+use Rattle.table.specs.Sound.{tableSound}
+use Rattle.table.specs.Steps.{planOf, stepOf}
+
+-- of the first number from i on at which a test holds: it holds there, and at no number before
+module _ (test : ℕ → Bool) where
+  -- an earlier number is the first one looked at, where the test does not hold, or comes later
+  past : (i k : ℕ) → i ≤ k → test i ≡ false → (i + 1 ≤ k → test k ≡ false) → test k ≡ false
+  past i k low e f = by (ltb i k) refl
+    where
+      by : (b : Bool) → ltb i k ≡ b → test k ≡ false
+      by true l = let x = ltb-true i k l in f (omega arith)
+      by false l = let x = ltb-false i k l in let same : k ≡ i = omega arith in rw same e
+
+  first-holds : (n i : ℕ) → firstFrom test n i < i + n → test (firstFrom test n i) ≡ true
+  unfolding firstFrom
+  first-holds zero i h = absurd (omega arith)
+  first-holds (suc n) i h = by (test i) refl (λ l. first-holds n (i + 1) l)
+    where
+      by : (b : Bool) → test i ≡ b → (firstFrom test n (i + 1) < i + 1 + n → test (firstFrom test n (i + 1)) ≡ true) → test (firstFrom test (suc n) i) ≡ true
+      by true e f = rw (e, e)
+      by false e f = rw e (f (let l : firstFrom test n (i + 1) < i + suc n = rw e at h in omega arith))
+
+  first-after : (n i k : ℕ) → i ≤ k → k < firstFrom test n i → test k ≡ false
+  unfolding firstFrom
+  first-after zero i k low h = absurd (omega arith)
+  first-after (suc n) i k low h = by (test i) refl (λ l m. first-after n (i + 1) k l m)
+    where
+      by : (b : Bool) → test i ≡ b → (i + 1 ≤ k → k < firstFrom test n (i + 1) → test k ≡ false) → test k ≡ false
+      by true e f = let l : k < i = rw e at h in absurd (omega arith)
+      by false e f = past i k low e (λ l. f l (rw e at h))
+
+  first-least : (n i k : ℕ) → i ≤ k → test k ≡ true → firstFrom test n i ≤ k
+  first-least n i k low e = by (ltb k (firstFrom test n i)) refl
+    where
+      by : (b : Bool) → ltb k (firstFrom test n i) ≡ b → firstFrom test n i ≤ k
+      by true l =
+          let f = first-after n i k low (ltb-true _ _ l) in
+          let z : _≡_ {A = ℕ} 0 1 = cc in
+          absurd (omega arith)
+      by false l = ltb-false _ _ l
+
+-- a place holds a message
+abbrev pub Taken : Table → ℕ → Type 0
+Taken t p = (m : Message) × (waitingAt t p ≡ One m)
+
+empty : (w : Waiting) → isEmpty w ≡ true → w ≡ Empty
+empty Empty e = refl
+empty (One m) e = let z : _≡_ {A = ℕ} 0 1 = cc in absurd (omega arith)
+
+holds : (w : Waiting) → isEmpty w ≡ false → (m : Message) × (w ≡ One m)
+holds Empty e = let z : _≡_ {A = ℕ} 0 1 = cc in absurd (omega arith)
+holds (One m) e = (m, refl)
+
+-- a send that is done, and a loss that is done
+send-by : (t : Table) (from to : ℕ) (a b c : Bool) (n : ℕ) → tableSound t ≡ a → ltb from (t .count) ≡ b → showOf (stationAt t from) to .answer ≡ n
+    → ltb (lowestEmpty (t .pool)) mostPlaces ≡ c → stepOf t (Send from to) .answer ≡ 0
+    → (stepOf t (Send from to) .result ≡ lowestEmpty (t .pool)) × (lowestEmpty (t .pool) < mostPlaces)
+unfolding stepOf planOf
+send-by t from to false b c n e f g h z = let x : _≡_ {A = ℕ} 1 0 = rw e at z in absurd (omega arith)
+send-by t from to true false c n e f g h z = let x : _≡_ {A = ℕ} 2 0 = rw (e, f) at z in absurd (omega arith)
+send-by t from to true true c (suc n) e f g h z = let x : suc n ≡ 0 = rw (e, f, g) at z in absurd (omega arith)
+send-by t from to true true false zero e f g h z = let x : _≡_ {A = ℕ} 6 0 = rw (e, f, g, h) at z in absurd (omega arith)
+send-by t from to true true true zero e f g h z = (rw (e, f, g, h), ltb-true _ _ h)
+
+lose-by : (t : Table) (p : ℕ) (a b : Bool) (w : Waiting) → tableSound t ≡ a → ltb p mostPlaces ≡ b → waitingAt t p ≡ w → stepOf t (Lose p) .answer ≡ 0
+    → stepOf t (Lose p) .table .pool ≡ set (t .pool) p (record { waiting = Empty })
+unfolding stepOf planOf
+lose-by t p false b w e f g z = let x : _≡_ {A = ℕ} 1 0 = rw e at z in absurd (omega arith)
+lose-by t p true false w e f g z = let x : _≡_ {A = ℕ} 7 0 = rw (e, f) at z in absurd (omega arith)
+lose-by t p true true Empty e f g z = let x : _≡_ {A = ℕ} 8 0 = rw (e, f, g) at z in absurd (omega arith)
+lose-by t p true true (One m) e f g z = rw (e, f, g)
+
+-- what is known of the place that a done send takes
+pub record TakesLowest (t : Table) (x : Stepped) : Type 0 where
+  pub lowest : x .result ≡ lowestEmpty (t .pool)
+  pub there : x .result < mostPlaces
+  pub was-empty : waitingAt t (x .result) ≡ Empty
+  pub before : (q : ℕ) → q < x .result → Taken t q
+
+pub send-takes-lowest : (t : Table) (from to : ℕ) → stepOf t (Send from to) .answer ≡ 0 → TakesLowest t (stepOf t (Send from to))
+send-takes-lowest t from to z =
+    let s = send-by t from to (tableSound t) (ltb from (t .count)) (ltb (lowestEmpty (t .pool)) mostPlaces) (showOf (stationAt t from) to .answer) refl refl refl refl z in
+    let test : ℕ → Bool = λ q. isEmpty (waitingAt t q) in
+    rw (s .0)
+    (record {
+      lowest = refl;
+      there = s .1;
+      was-empty = empty _ (first-holds test mostPlaces 0 (omega arith));
+      before = λ q h. holds _ (first-after test mostPlaces 0 q (omega arith) h);
+    })
+
+-- a place freed by a loss is empty
+freed : (pool : List Place) (p : ℕ) → placeIn (set pool p (record { waiting = Empty })) p ≡ Empty
+freed [] p = refl
+freed (x ∷ pool) zero = refl
+freed (x ∷ pool) (suc p) = freed pool p
+
+module _ (t : Table) (p from to : ℕ) (lost : stepOf t (Lose p) .answer ≡ 0) where
+  abbrev later : Table
+  later = stepOf t (Lose p) .table
+
+  pool-later : later .pool ≡ set (t .pool) p (record { waiting = Empty })
+  pool-later = lose-by t p (tableSound t) (ltb p mostPlaces) (waitingAt t p) refl refl refl lost
+
+  -- the next send takes it or an earlier place
+  pub freed-at-most : stepOf later (Send from to) .answer ≡ 0 → stepOf later (Send from to) .result ≤ p
+  freed-at-most z =
+      rw (send-takes-lowest later from to z .lowest, pool-later)
+      (first-least _ mostPlaces 0 p (omega arith) (rw (freed (t .pool) p)))
+
+  -- and it takes this one where every place before it is taken
+  pub freed-used-again : ((q : ℕ) → q < p → Taken t q) → stepOf later (Send from to) .answer ≡ 0 → stepOf later (Send from to) .result ≡ p
+  freed-used-again full z = by (ltb r p) refl
+    where
+      r : ℕ
+      r = stepOf later (Send from to) .result
+
+      by : (b : Bool) → ltb r p ≡ b → r ≡ p
+      by false e = let l = ltb-false r p e in let m = freed-at-most z in omega arith
+      by true e =
+          let l = ltb-true r p e in
+          let one = full r l .1 in
+          let none = send-takes-lowest later from to z .was-empty in
+          let same : waitingAt later r ≡ waitingAt t r = rw pool-later (ap (λ (x : Place). x .waiting) (getD-set-other (t .pool) p r (record { waiting = Empty }) _ (λ s. omega arith))) in
+          let z : _≡_ {A = ℕ} 0 1 = cc in
+          absurd (omega arith)
