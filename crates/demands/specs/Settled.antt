@@ -1,6 +1,5 @@
--- What the contracts have to settle, as one list: for each public function, any two outcomes that its promise allows are equal.
--- Not listed: `start`, `fill`. Their promises leave open how much is put at once, and what the lent buffer holds behind it; why, and what they fix, is told in
--- docs/DECISIONS.md, "The output is made in pieces".
+-- What the contracts have to settle, as one list: for each public function, any two outcomes that its promise allows are equal. Each row is about the definition
+-- that the promise cites, applied to the parameters by their names; `tools/listed` holds it against the source.
 use Prim.Native.Nat.{ℕ}
 use mathlib.Core.Path.{_≡_}
 use mathlib.Core.List.{List}
@@ -8,9 +7,10 @@ use lib.ListN.{length}
 use Rattle.station.specs.declared.held.Slot.{Slot}
 use Rattle.station.specs.declared.held.Token.{Token}
 use Rattle.station.specs.declared.message.Message.{Message}
+use Rattle.station.specs.declared.outcome.Report.{Report}
 use Rattle.station.specs.declared.station.Station.{Station}
 use Rattle.station.specs.Limits.{mostStations}
-use Rattle.station.specs.Outcome.{noReport}
+use Rattle.station.specs.Outcome.{noReport, rulesOf}
 use Rattle.station.specs.Rules.{agree}
 use Rattle.station.specs.Sound.{countSound, stationSound, messageSound}
 use Rattle.station.specs.Steps.{blank, noMessage, freshOf, addOf, drawOf, showOf, receiveOf, messageFor}
@@ -43,51 +43,55 @@ SettlesBoth {A} {B} promise = Settles {A = A × B} (λ o. promise (o .0) (o .1))
 
 pub record Settled : Type 0 where
   -- a station
-  pub fresh : (number count : ℕ) → Settles (λ r. r ≡ freshOf number count)
-  pub add : (s : Station) (amount : ℕ) → Settles (λ r. r ≡ addOf s amount)
-  pub draw : (s : Station) (amount : ℕ) → Settles (λ r. r ≡ drawOf s amount)
-  pub message-for : (s : Station) (to : ℕ) → Settles (λ r. r ≡ showOf s to)
-  pub receive : (s : Station) (m : Message) → Settles (λ r. r ≡ receiveOf s m)
+  pub station·fresh : (number count : ℕ) → Settles (λ r. r ≡ freshOf number count)
+  pub station·add : (s : Station) (amount : ℕ) → Settles (λ r. r ≡ addOf s amount)
+  pub station·draw : (s : Station) (amount : ℕ) → Settles (λ r. r ≡ drawOf s amount)
+  pub station·message-for : (s : Station) (to : ℕ) → Settles (λ r. r ≡ showOf s to)
+  pub station·receive : (s : Station) (m : Message) → Settles (λ r. r ≡ receiveOf s m)
   -- its tests and constants
-  pub count-is-sound : (count : ℕ) → Settles (λ r. r ≡ countSound count)
-  pub station-is-sound : (s : Station) → Settles (λ r. r ≡ stationSound s)
-  pub message-is-sound : (m : Message) → Settles (λ r. r ≡ messageSound m)
-  pub clocks-agree : (t : Token) (l : Slot) → Settles (λ r. r ≡ agree t l)
-  pub blank-station : (number count : ℕ) → Settles (λ r. r ≡ blank number count)
-  pub no-message : Settles (λ r. r ≡ noMessage)
-  pub no-report : Settles (λ r. r ≡ noReport)
+  pub station·count-is-sound : (count : ℕ) → Settles (λ r. r ≡ countSound count)
+  pub station·station-is-sound : (s : Station) → Settles (λ r. r ≡ stationSound s)
+  pub station·message-is-sound : (m : Message) → Settles (λ r. r ≡ messageSound m)
+  pub station·clocks-agree : (t : Token) (l : Slot) → Settles (λ r. r ≡ agree t l)
+  pub station·blank-station : (number count : ℕ) → Settles (λ r. r ≡ blank number count)
+  pub station·no-message : Settles (λ r. r ≡ noMessage)
+  pub station·no-report : Settles (λ r. r ≡ noReport)
+  pub station·rules-of : (report : Report) → Settles (λ r. r ≡ rulesOf report)
   -- a record: the buffer that is written to is lent
-  pub read : (bytes : List ℕ) → Settles (λ r. r ≡ readOf bytes)
-  pub write : (m : Message) (before : List ℕ) → SettlesBoth (Writes (writeAnswer m (length before)) (bytesOf m) before)
-  pub write-message : (s : Station) (to : ℕ) (before : List ℕ) → SettlesBoth (Writes (writeForAnswer s to (length before)) (bytesOf (messageFor s to)) before)
-  pub receive-bytes : (s : Station) (bytes : List ℕ) → Settles (λ r. r ≡ receiveBytesOf s bytes)
+  pub record·read : (bytes : List ℕ) → Settles (λ r. r ≡ readOf bytes)
+  pub record·write : (m : Message) (buffer : List ℕ) → SettlesBoth (Writes (writeAnswer m (length buffer)) (bytesOf m) buffer)
+  pub record·write-message : (s : Station) (to : ℕ) (buffer : List ℕ)
+      → SettlesBoth (Writes (writeForAnswer s to (length buffer)) (bytesOf (messageFor s to)) buffer)
+  pub record·receive-bytes : (s : Station) (bytes : List ℕ) → Settles (λ r. r ≡ receiveBytesOf s bytes)
   -- the exports: what is changed is lent
-  pub qb-station-fresh : (number count : ℕ) (before : List ℕ) → SettlesBoth (Gives (freshBy number count before))
-  pub qb-station-add : (before : List ℕ) (amount : ℕ) → SettlesBoth (Gives (addBy amount before))
-  pub qb-station-draw : (before : List ℕ) (amount : ℕ) → SettlesBoth (Gives (drawBy amount before))
-  pub qb-station-write : (numbers : List ℕ) (to : ℕ) (before : List ℕ) → SettlesBoth (Gives (showBy numbers to before))
-  pub qb-station-receive : (before bytes : List ℕ) → SettlesBoth (Gives (receiveBy bytes before))
-  pub qb-record-read : (bytes before : List ℕ) → SettlesBoth (Gives (readBy bytes before))
-  pub qb-record-write : (numbers before : List ℕ) → SettlesBoth (Gives (writeBy numbers before))
+  pub quynhabet·qb-station-fresh : (number count : ℕ) (station : List ℕ) → SettlesBoth (Gives (freshBy number count station))
+  pub quynhabet·qb-station-add : (station : List ℕ) (amount : ℕ) → SettlesBoth (Gives (addBy amount station))
+  pub quynhabet·qb-station-draw : (station : List ℕ) (amount : ℕ) → SettlesBoth (Gives (drawBy amount station))
+  pub quynhabet·qb-station-write : (station : List ℕ) (to : ℕ) (out : List ℕ) → SettlesBoth (Gives (showBy station to out))
+  pub quynhabet·qb-station-receive : (station bytes : List ℕ) → SettlesBoth (Gives (receiveBy bytes station))
+  pub quynhabet·qb-record-read : (bytes message : List ℕ) → SettlesBoth (Gives (readBy bytes message))
+  pub quynhabet·qb-record-write : (message out : List ℕ) → SettlesBoth (Gives (writeBy message out))
   -- a table
-  pub fresh-table : (count : ℕ) → Settles (λ r. r ≡ freshTableOf count)
-  pub table-is-sound : (t : Table) → Settles (λ r. r ≡ tableSound t)
-  pub plan-for : (t : Table) (step : Step) → Settles (λ r. r ≡ planOf t step)
-  pub plan-at : (refusal count : ℕ) (step : Step) (s : Station) (w : Waiting) (free : ℕ) → Settles (λ r. r ≡ planAt refusal count step s w free)
-  pub step : (t : Table) (step : Step) → Settles (λ r. r ≡ stepOf t step)
-  pub on-the-way : (t : Table) → Settles (λ r. r ≡ asked t (onTheWay t))
-  pub at-stations : (t : Table) → Settles (λ r. r ≡ asked t (atStations t))
-  pub qm-last-result : (count : ℕ) (codes : List ℕ) → Settles (λ r. r ≡ lastResult (freshTableOf count .table) 0 codes)
+  pub table·fresh-table : (count : ℕ) → Settles (λ r. r ≡ freshTableOf count)
+  pub table·table-is-sound : (t : Table) → Settles (λ r. r ≡ tableSound t)
+  pub table·plan-for : (t : Table) (step : Step) → Settles (λ r. r ≡ planOf t step)
+  pub table·plan-at : (refusal count : ℕ) (step : Step) (s : Station) (waiting : Waiting) (free : ℕ)
+      → Settles (λ r. r ≡ planAt refusal count step s waiting free)
+  pub table·step : (t : Table) (step : Step) → Settles (λ r. r ≡ stepOf t step)
+  pub table·on-the-way : (t : Table) → Settles (λ r. r ≡ asked t (onTheWay t))
+  pub table·at-stations : (t : Table) → Settles (λ r. r ≡ asked t (atStations t))
+  pub measure·qm-last-result : (count : ℕ) (codes : List ℕ) → Settles (λ r. r ≡ lastResult (freshTableOf count .table) 0 codes)
   -- what of a table a step looks at
-  pub place-looked-at : (step : Step) → Settles (λ r. r ≡ below (placeLookedAt step) mostPlaces)
-  pub station-looked-at : (step : Step) (w : Waiting) → Settles (λ r. r ≡ below (stationLookedAt step w) mostStations)
-  pub needs-place : (step : Step) → Settles (λ r. r ≡ needsPlace step)
-  pub lowest-empty : (pool : List Place) → Settles (λ r. r ≡ lowestEmpty pool)
+  pub table·place-looked-at : (step : Step) → Settles (λ r. r ≡ below (placeLookedAt step) mostPlaces)
+  pub table·station-looked-at : (step : Step) (waiting : Waiting) → Settles (λ r. r ≡ below (stationLookedAt step waiting) mostStations)
+  pub table·needs-place : (step : Step) → Settles (λ r. r ≡ needsPlace step)
+  pub table·lowest-empty : (pool : List Place) → Settles (λ r. r ≡ lowestEmpty pool)
   -- a pool, lent and by value
-  pub send-in : (pool : List Place) (m : Message) → SettlesBoth (λ r after. (r ≡ sendInTold pool) × (after ≡ sendInPool pool m))
-  pub lose-in : (pool : List Place) (p : ℕ) → SettlesBoth (λ r after. (r ≡ loseInTold pool p) × (after ≡ loseInPool pool p))
-  pub send-value : (pool : List Place) (m : Message) → Settles {A = Pooled} (λ r. r ≡ record { told = sendInTold pool; pool = sendInPool pool m })
-  pub lose-value : (pool : List Place) (p : ℕ) → Settles {A = Pooled} (λ r. r ≡ record { told = loseInTold pool p; pool = loseInPool pool p })
+  pub table·send-in : (pool : List Place) (m : Message) → SettlesBoth (λ r after. (r ≡ sendInTold pool) × (after ≡ sendInPool pool m))
+  pub table·lose-in : (pool : List Place) (p : ℕ) → SettlesBoth (λ r after. (r ≡ loseInTold pool p) × (after ≡ loseInPool pool p))
+  pub table·send-value : (pool : List Place) (m : Message)
+      → Settles {A = Pooled} (λ r. r ≡ record { told = sendInTold pool; pool = sendInPool pool m })
+  pub table·lose-value : (pool : List Place) (p : ℕ) → Settles {A = Pooled} (λ r. r ≡ record { told = loseInTold pool p; pool = loseInPool pool p })
   -- a script
-  pub «open» : (script : List ℕ) → Settles (λ r. r ≡ openOf script)
-  pub advance : (script : List ℕ) (t : Table) (at : ℕ) → Settles (λ r. r ≡ advanceOf script t at)
+  pub script·open : (script : List ℕ) → Settles (λ r. r ≡ openOf script)
+  pub script·advance : (script : List ℕ) (t : Table) (at : ℕ) → Settles (λ r. r ≡ advanceOf script t at)
