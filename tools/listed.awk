@@ -1,10 +1,10 @@
-# The lists of crates/demands/specs that speak of promises, held against the promises that tools/promises.awk read: Promised, Settled and Demand1. Each public
-# function has a row in the first two, and in the third if its result holds a field `answer`, itself or in a struct that it holds. A row's key is
-# crate·function, or crate·Type·method, with - for _; its binders are the parameters by their names; what it says is, in
+# The lists of crates/demands/specs that speak of promises, Settled and Demand1, held against the promises that tools/promises.awk read. Each public function
+# has a row in Settled, and one in Demand1 if its result holds a field `answer`, itself or in a struct that it holds. A row's key is crate·function, or
+# crate·Type·method, with - for _; its binders are the parameters by their names, in their order; what it says is, in
 #
-#     Promised   Promises PATH.ended (λ M 𝓤. PATH.clauses 𝓤) (λ κ. (a, (b, tt))) (λ κ r e. CLAIM)     PATH is Rattle.crate.proofs.module.function, and CLAIM
-#                is the ensures with (now b) for (now (b .entry)), and for (now (b .exit)) the place of b: (now (e .0)), (now (e .1 .0)), ..
-#     Settled    Settles (λ r. r ≡ d a b), or SettlesBoth (P a b); Settles (P a b) where nothing is lent to be changed
+#     Settled    Settles PATH.ended (λ M 𝓤. PATH.clauses 𝓤) (λ κ. (a, (b, tt))) (λ κ r. r ≡ d a (now b)), where b is lent, or
+#                SettlesBoth PATH.ended (λ M 𝓤. PATH.clauses 𝓤) (λ κ. (a, (b, tt))) (λ κ e. now (e .1 .0)) (λ κ. P a (now b)), where b is lent to be changed;
+#                PATH is Rattle.crate.proofs.module.function, and e has what each parameter is at the end: e .0, e .1 .0, e .1 .1 .0, ..
 #     Demand1    F .. (d a b), or with r and b′ for binders too P a b r b′ → F .. r b′, where F is defined in Demand1
 #
 # and `d` or `P` is what the promise cites: imported in the list from the very module that the source imports it from, under whatever name. A function that
@@ -36,14 +36,14 @@ function declares(line) {
 }
 
 function reads_row(line) {
-    if (line ~ /^  pub [^ ]+ : /) begins_row($2, line)
-    else if (line ~ /^    / && rows[list]) row[list, last] = row[list, last] " " trimmed(line)
+    if (line ~ /^  pub [^ ]+ :( |$)/) begins_row($2, line)
+    else if (line ~ /^    / && rows[list]) row[list, last] = trimmed(row[list, last] " " trimmed(line))
     else fault(here(), "in a list this is not read: " line)
 }
 
 function begins_row(key, line) {
     if ((list, key) in row) fault(here(), key " is doubled in " list)
-    sub(/^  pub [^ ]+ : /, "", line)
+    sub(/^  pub [^ ]+ : */, "", line)
     row[list, key] = line
     row_at[list, key] = here()
     row_list[++all_rows] = list
@@ -120,23 +120,17 @@ function tuple(key,    i, text) {
     return text
 }
 
-function at_exit(key,    i, way, text) {
-    for (i = 1; i <= count[key]; i++) {
-        if (how[key, i] == "changed") text = text " (now (e" way " .0))"
-        way = way " .1"
-    }
-    return text
+# what is then in the one parameter that is lent to be changed
+function at_exit(key,    i, way) {
+    for (i = 1; how[key, i] != "changed"; i++) way = way " .1"
+    return "(λ κ e. now (e" way " .0)) "
 }
 
-function holds_promised(key,    begin, end) {
-    begin = "Promises " path[key] ".ended (λ M 𝓤. " path[key] ".clauses 𝓤) (λ κ. " tuple(key) ") (λ κ r e. " (equation[key] ? "r ≡ " : "")
-    end = arguments(key, "(now ", ")") (equation[key] ? "" : " r" at_exit(key)) ")"
-    holds_row("Promised", key, arguments(key, "", ""), begin, end)
-}
-
-function holds_settled(key,    args) {
-    args = arguments(key, "", "")
-    holds_row("Settled", key, args, equation[key] ? "Settles (λ r. r ≡ " : changes(key) ? "SettlesBoth (" : "Settles (", args ")")
+function holds_settled(key,    begin, claim) {
+    begin = changes(key) ? "SettlesBoth " : "Settles "
+    begin = begin path[key] ".ended (λ M 𝓤. " path[key] ".clauses 𝓤) (λ κ. " tuple(key) ") " (changes(key) ? at_exit(key) : "")
+    claim = equation[key] ? "(λ κ r. r ≡ " : "(λ κ. "
+    holds_row("Settled", key, arguments(key, "", ""), begin claim, arguments(key, "(now ", ")") ")")
 }
 
 # what a row of Demand1 says of an outcome: some words, the first of them defined in the list
@@ -178,14 +172,15 @@ function holds_demand1(key) {
 function holds_function(key) {
     known[label[key]] = 1
     if (!(key in promise)) return
-    holds_promised(key)
     holds_settled(key)
     if (!exempted(key)) holds_demand1(key)
 }
 
-function holds_list(list) {
-    if (!rows[list]) fault("the list " list, "it has no row")
-    else if (list != "Demand1" && !equals(list_file[list])) fault(list_file[list], "≡ is not the library's")
+function holds_names(file) {
+    holds_name(file, "mathlib.Core.Path", "_≡_")
+    holds_name(file, "denote.Ref", "now")
+    holds_name(file, "Rattle.demands.specs.Contracts", "Settles")
+    holds_name(file, "Rattle.demands.specs.Contracts", "SettlesBoth")
 }
 
 END {
@@ -194,8 +189,9 @@ END {
         if (!(row_key[i] in function_at)) fault(row_at[row_list[i], row_key[i]], row_key[i] " in " row_list[i] " is no public function")
     }
     for (name in exempt) if (!(name in known)) fault(exempt[name], name " is said not to be listed, and is no public function")
-    for (i = split("Promised Settled Demand1", part, " "); i > 0; i--) holds_list(part[i])
+    if (!rows["Settled"] || !rows["Demand1"]) fault("crates/demands/specs", "a list has no row")
+    else holds_names(list_file["Settled"])
     if (!functions) fault("crates", "there is no public function")
     if (faults) exit 1
-    print functions " public functions: the promise of each stands in Promised and in Settled, and those of " refusals " in Demand1"
+    print functions " public functions: the promise of each stands in Settled, and those of " refusals " in Demand1"
 }

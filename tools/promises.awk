@@ -2,7 +2,7 @@
 # where a public function (`pub fn`, `pub extern "C" fn`, in an `impl` too) has a requires, or has not one ensures of one of two forms:
 #
 #     λ r. ⌜ r ≡ d a (now (b .entry)) ⌝                      only where nothing is lent to be changed
-#     λ r. ⌜ P a (now (b .entry)) r (now (b .exit)) ⌝        with the later content of each `&mut` parameter, in their order
+#     λ r. ⌜ P a (now (b .entry)) r (now (b .exit)) ⌝        with the later content of the `&mut` parameter, of which there is at most one
 #
 # where `d` or `P` is one name, imported from a specs module, and applied to all parameters in their order: to what one that is lent holds at entry, to any
 # other itself. It reads the layout of rt fmt: a head begins its line with `pub fn` or `pub extern "C" fn`, has in it only its parameters and its result, each
@@ -57,8 +57,9 @@ function meaning(file, name) {
     return (file, name) in imported ? imported[file, name] : name ", which is not imported"
 }
 
-function equals(file) {
-    return meaning(file, "_≡_") == "mathlib.Core.Path._≡_"
+# a name that has to mean what it means in that module
+function holds_name(file, module, name) {
+    if (meaning(file, name) != module "." name) fault(file, name " is not that of " module ": " meaning(file, name))
 }
 
 # ---- a source file, line by line
@@ -243,6 +244,7 @@ function reads_promise(key,    i, args, cited) {
         fault(at, label[key] " has not just one ensures")
         return
     }
+    if (later(key, "", "") ~ / .* /) fault(at, label[key] ": more than one parameter is lent to be changed:" later(key, "", ""))
     args = arguments(key, "(now (", " .entry))")
     cited = between(clause[1], "ensures { λ r. ⌜ r ≡ ", args " ⌝ }")
     equation[key] = cited != ""
@@ -254,7 +256,7 @@ function reads_promise(key,    i, args, cited) {
 
 function cites(key, cited,    i) {
     for (i = 1; i <= count[key]; i++) if (parameter[key, i] == cited) fault(at, label[key] ": its ensures cites its parameter " cited)
-    if (equation[key] && !equals(FILENAME)) fault(at, label[key] ": ≡ is not the library's")
+    if (equation[key]) holds_name(FILENAME, "mathlib.Core.Path", "_≡_")
     cited = meaning(FILENAME, cited)
     if (cited ~ /^Rattle·[^ ]+\.specs\.[^ ]+$/) promise[key] = cited
     else fault(at, label[key] ": its ensures cites " cited)
