@@ -8,7 +8,7 @@
 # other itself. It reads the layout of rt fmt: a head begins its line with `pub fn` or `pub extern "C" fn`, has in it only its parameters and its result, each
 # clause is a line of its own, and then comes a line that is the opening brace. A head, or something public, that it does not read so is a failure:
 # pub and fn on two lines, or two blanks apart; two functions on a line; another word before fn (pub(in ..), pub(super), const, unsafe, another extern, an
-# attribute); a comment in a head, or one by /*; a clause on the head's own line, or on two lines; no brace; a module in a module.
+# attribute); a line of comment in a head, or a comment by /*; a clause on the head's own line, or on two lines; no brace; a module in a module.
 # `pub(crate) fn` is not public.
 
 function fault(where, what) {
