@@ -1,20 +1,19 @@
 -- Demand 1 holds: every refusal has result 0, an empty report, and leaves what was lent. Assumes nothing.
 use Prim.Native.Nat.{ℕ, zero, suc}
-use mathlib.Core.Path.{_≡_, refl, sym}
+use mathlib.Core.Path.{_≡_, refl, sym, _∙_}
 use mathlib.Core.Bool.{Bool, true, false, cond}
 use mathlib.Core.List.{List}
 use mathlib.Core.Logic.{_≢_}
+use lib.Dec.{ltb}
 use lib.ListN.{length}
-use Rattle.rules.specs.declared.message.Message.{Message}
+use Rattle.station.specs.declared.message.Message.{Message}
 use Rattle.station.specs.declared.outcome.Outcome.{Outcome}
-use Rattle.rules.specs.declared.report.Report.{Report}
+use Rattle.station.specs.declared.outcome.Report.{Report}
 use Rattle.station.specs.declared.station.Station.{Station}
-use Rattle.rules.specs.Answers.{done, notSound, noRecord}
-use Rattle.rules.specs.Report.{noReport}
-use Rattle.station.specs.Outcome.{answered}
+use Rattle.station.specs.Answers.{done, notSound, noRecord}
+use Rattle.station.specs.Outcome.{answered, noReport}
 use Rattle.station.specs.Sound.{countSound}
-use Rattle.rules.specs.Message.{noMessage}
-use Rattle.station.specs.Steps.{freshAnswer, addAnswer, drawAnswer, showAnswer, showing, receiveAnswer}
+use Rattle.station.specs.Steps.{noMessage, freshAnswer, addAnswer, drawAnswer, showAnswer, showing, receiveAnswer}
 use Rattle.station.specs.Steps.{messageFor, freshOf, addOf, drawOf, showOf, receiveOf}
 use Rattle.record.specs.declared.reading.Reading.{Reading}
 use Rattle.record.specs.declared.writing.Written.{Written}
@@ -22,7 +21,8 @@ use Rattle.record.specs.Reading.{isRecord, noReading, readAt, readOf}
 use Rattle.record.specs.Layout.{bytesOf}
 use Rattle.record.specs.Writing.{Writes, writeAnswer}
 use Rattle.record.specs.AtStation.{writeForAnswer, receiveBytesOf}
-use Rattle.quynhabet.specs.Exports.{plainTold, toldOf, outcomeBy, refusedBy, writtenBy, readingBy, freshBy, addBy, drawBy, showBy, receiveBy, readBy, writeBy}
+use Rattle.quynhabet.specs.declared.told.Told.{Told}
+use Rattle.quynhabet.specs.Exports.{Given, Gives, plainTold, toldOf, outcomeBy, refusedBy, writtenBy, readingBy, freshBy, addBy, drawBy, showBy, receiveBy, readBy, writeBy}
 use Rattle.quynhabet.specs.Layout.{numbersOf, stationOf, stationFits, messageNumbers, messageOf, messageFits}
 use Rattle.quynhabet.proofs.Giving.{kept-refused}
 use Rattle.table.specs.declared.planning.Plan.{Plan}
@@ -38,7 +38,15 @@ use Rattle.table.specs.Fresh.{seatsTo, freshOf as freshTableOf}
 use Rattle.table.specs.Lent.{told, left, sendInAnswer, loseInAnswer}
 use Rattle.table.specs.Steps.{planned, stationAnswer, lowestAnswer, placeAnswer, deliverBy, loseBy, planWith, planAt, planBy, tableAnswer, planOf, applied, stepOf}
 use Rattle.table.specs.Way.{onTheWay, atStations}
-use Rattle.script.proofs.Refused.{answer-refused, fill-refused, start-refused}
+use Rattle.script.specs.declared.lines.Line.{Line}
+use Rattle.script.specs.declared.lines.Line.the-variants.{NoStep, OneStep}
+use Rattle.script.specs.declared.words.Numeral.{Numeral}
+use Rattle.script.specs.declared.words.Numeral.the-variants.{Unreadable, Reads}
+use Rattle.script.specs.Decimal.{says}
+use Rattle.script.specs.Lines.{lineOf, stationsOf}
+use Rattle.script.specs.Running.{lineAt, notOpened, openBy, openOf, pastLine, printedBy, advanceOf}
+use Rattle.script.specs.Script.{mostBytes, lineStep}
+use Rattle.script.proofs.Runs.{start-refused, output-opened}
 use Rattle.demands.specs.Demand1.{noStation, noTable, RefusedAs, RefusedAsTable, RefusedPlan, RefusedSum, Refused, RefusedNumbers, Demand1}
 
 -- one station: an answer that is not 0 makes a refusal of any outcome
@@ -59,24 +67,31 @@ writes : (answer : ℕ) (bytes before : List ℕ) (r : Written) (after : List �
 writes zero bytes before r after w f = absurd (f (rw (w .told)))
 writes (suc n) bytes before r after w f = (rw (w .told), w .buffer)
 
--- numbers: what is refused is told with result 0 and an empty report, and what was lent is kept
+-- numbers: what is refused, of what an export gives, is refused of what it promises
+abbrev RefusedGiven : List ℕ → Given → Type 0
+RefusedGiven before g = RefusedNumbers before (g .told) (g .lent)
+
+gives-refused : (g : Given) (before : List ℕ) → RefusedGiven before g → (r : Told) (after : List ℕ) → Gives g r after → RefusedNumbers before r after
+gives-refused g before h r after p = rw (p .told, p .lent) h
+
+-- what is refused is told with result 0 and an empty report, and what was lent is kept
 told-refused : (n : ℕ) {result : ℕ} {report : Report} → result ≡ 0 → report ≡ noReport → toldOf n result report ≡ plainTold n 0
 told-refused n e f = rw (e, f)
 
-in-numbers : (s : Station) (o : Outcome) (before : List ℕ) → RefusedAs s o → RefusedNumbers before (outcomeBy o before)
+in-numbers : (s : Station) (o : Outcome) (before : List ℕ) → RefusedAs s o → RefusedGiven before (outcomeBy o before)
 in-numbers s o before h f = let r = h f in (told-refused (o .answer) (r .0) (r .1), sym (kept-refused (o .answer) before (numbersOf (o .station)) f))
 
 on-numbers : (fits : Bool) (s : Station) (o : Outcome) (before : List ℕ) → RefusedAs s o
-    → RefusedNumbers before (cond fits (outcomeBy o before) (refusedBy notSound before))
+    → RefusedGiven before (cond fits (outcomeBy o before) (refusedBy notSound before))
 on-numbers true s o before h f = in-numbers s o before h f
 on-numbers false s o before h f = (refl, refl)
 
-into-bytes : (fits : Bool) (unfit answer : ℕ) (bytes before : List ℕ) → RefusedNumbers before (cond fits (writtenBy answer bytes before) (refusedBy unfit before))
+into-bytes : (fits : Bool) (unfit answer : ℕ) (bytes before : List ℕ) → RefusedGiven before (cond fits (writtenBy answer bytes before) (refusedBy unfit before))
 into-bytes true unfit zero bytes before f = absurd (f refl)
 into-bytes true unfit (suc n) bytes before f = (refl, refl)
 into-bytes false unfit answer bytes before f = (refl, refl)
 
-from-bytes : (r : Reading) (before : List ℕ) → Refused (r .answer) (r .result) noMessage (r .message) → RefusedNumbers before (readingBy r before)
+from-bytes : (r : Reading) (before : List ℕ) → Refused (r .answer) (r .result) noMessage (r .message) → RefusedGiven before (readingBy r before)
 from-bytes r before h f = (told-refused (r .answer) (h f .0) refl, sym (kept-refused (r .answer) before (messageNumbers (r .message)) f))
 
 -- a table: a plan that is refused, and one that is made of a refusal or of a plan that is done
@@ -135,52 +150,74 @@ in-pool : (n result : ℕ) (pool changed : List Place) → let r = told n result
 in-pool zero result pool changed f = absurd (f refl)
 in-pool (suc n) result pool changed f = (refl, refl)
 
+-- a script
+opens : (long : Bool) (first : Numeral) (at : ℕ) → let r = cond long (notOpened 13) (openBy first at) in r .answer ≢ done → (r .table ≡ noTable) × (r .at ≡ 0)
+unfolding seatsTo
+opens true first at f = (refl, refl)
+opens false Unreadable at f = (refl, refl)
+opens false (Reads count) at f = (makes count f .2, start-refused (freshTableOf count .answer) at f)
+
+lines : (t : Table) (line : Line) → let r = lineStep t line in Refused (r .answer) (r .result) t (r .table)
+lines t NoStep f = (refl, refl)
+lines t (OneStep step) f = let r = steps t step f in (r .0, r .2)
+
+one-line : (script : List ℕ) (n : ℕ) (t : Table) (at : ℕ) → n ≢ done → printedBy script n t at ≡ says 0 n 0
+one-line script zero t at f = absurd (f refl)
+one-line script (suc n) t at f = refl
+
 pub demand1 : Demand1
-unfolding freshOf addOf drawOf receiveOf receiveBytesOf showOf readAt seatsTo freshBy addBy drawBy showBy receiveBy readBy writeBy
+unfolding freshOf addOf drawOf receiveOf receiveBytesOf showOf readAt openOf advanceOf freshBy addBy drawBy showBy receiveBy readBy writeBy
 demand1 =
     record {
-      fresh = λ number count. at-station (freshAnswer number count) noStation _ refl;
-      add = λ s amount. at-station (addAnswer s amount) s _ refl;
-      draw = λ s amount. at-station (drawAnswer s amount) s _ refl;
-      message-for = λ s to. no-message (showAnswer s to) (messageFor s to);
-      receive = λ s m. at-station (receiveAnswer s m) s _ refl;
-      read = λ bytes. no-record (isRecord bytes 0) _ refl;
-      write = λ m before. writes _ _ before;
-      write-message = λ s to before. writes _ _ before;
-      receive-bytes = λ s bytes. at-station (receiveAnswer s (readOf bytes .message)) s _ refl;
-      qb-station-fresh = λ number count before. in-numbers noStation (freshOf number count) before (at-station (freshAnswer number count) noStation _ refl);
-      qb-station-add =
-          λ before amount.
-          let s = stationOf before in
-          on-numbers (stationFits before) s (addOf s amount) before (at-station (addAnswer s amount) s _ refl);
-      qb-station-draw =
-          λ before amount.
-          let s = stationOf before in
-          on-numbers (stationFits before) s (drawOf s amount) before (at-station (drawAnswer s amount) s _ refl);
-      qb-station-write =
-          λ numbers to before.
-          let s = stationOf numbers in
-          into-bytes (stationFits numbers) notSound (writeForAnswer s to (length before)) (bytesOf (messageFor s to)) before;
-      qb-station-receive =
-          λ before bytes.
-          let s = stationOf before in
-          on-numbers (stationFits before) s (receiveBytesOf s bytes) before (at-station (receiveAnswer s (readOf bytes .message)) s _ refl);
-      qb-record-read = λ bytes before. from-bytes (readOf bytes) before (no-record (isRecord bytes 0) _ refl);
-      qb-record-write =
-          λ numbers before.
-          let m = messageOf numbers in
-          into-bytes (messageFits numbers) noRecord (writeAnswer m (length before)) (bytesOf m) before;
-      fresh-table = makes;
-      plan-for = plans;
-      plan-at = plans-at;
-      step = steps;
-      on-the-way = λ t. no-sum (tableSound t) (onTheWay t);
-      at-stations = λ t. no-sum (tableSound t) (atStations t);
-      send-in = λ pool m. in-pool (sendInAnswer pool) _ pool _;
-      lose-in = λ pool p. in-pool (loseInAnswer pool p) _ pool _;
-      send-value = λ pool m r e. rw e (in-pool (sendInAnswer pool) _ pool _);
-      lose-value = λ pool p r e. rw e (in-pool (loseInAnswer pool p) _ pool _);
-      start = start-refused;
-      put-answer = λ answer before r after p. answer-refused answer before p;
-      fill = λ script run before r after p. fill-refused script run before p;
+      station·fresh = λ number count. at-station (freshAnswer number count) noStation _ refl;
+      station·add = λ s amount. at-station (addAnswer s amount) s _ refl;
+      station·draw = λ s amount. at-station (drawAnswer s amount) s _ refl;
+      station·message-for = λ s to. no-message (showAnswer s to) (messageFor s to);
+      station·receive = λ s m. at-station (receiveAnswer s m) s _ refl;
+      record·read = λ bytes. no-record (isRecord bytes 0) _ refl;
+      record·write = λ m buffer. writes _ _ buffer;
+      record·write-message = λ s to buffer. writes _ _ buffer;
+      record·receive-bytes = λ s bytes. at-station (receiveAnswer s (readOf bytes .message)) s _ refl;
+      quynhabet·qb-station-fresh =
+          λ number count station.
+          gives-refused _ station
+          (in-numbers noStation (freshOf number count) station (at-station (freshAnswer number count) noStation _ refl));
+      quynhabet·qb-station-add =
+          λ station amount.
+          let s = stationOf station in
+          gives-refused _ station (on-numbers (stationFits station) s (addOf s amount) station (at-station (addAnswer s amount) s _ refl));
+      quynhabet·qb-station-draw =
+          λ station amount.
+          let s = stationOf station in
+          gives-refused _ station (on-numbers (stationFits station) s (drawOf s amount) station (at-station (drawAnswer s amount) s _ refl));
+      quynhabet·qb-station-write =
+          λ station to out.
+          let s = stationOf station in
+          gives-refused _ out (into-bytes (stationFits station) notSound (writeForAnswer s to (length out)) (bytesOf (messageFor s to)) out);
+      quynhabet·qb-station-receive =
+          λ station bytes.
+          let s = stationOf station in
+          gives-refused _ station
+          (on-numbers (stationFits station) s (receiveBytesOf s bytes) station (at-station (receiveAnswer s (readOf bytes .message)) s _ refl));
+      quynhabet·qb-record-read = λ bytes message. gives-refused _ message (from-bytes (readOf bytes) message (no-record (isRecord bytes 0) _ refl));
+      quynhabet·qb-record-write =
+          λ message out.
+          let m = messageOf message in
+          gives-refused _ out (into-bytes (messageFits message) noRecord (writeAnswer m (length out)) (bytesOf m) out);
+      table·fresh-table = makes;
+      table·plan-for = plans;
+      table·plan-at = plans-at;
+      table·step = steps;
+      table·on-the-way = λ t. no-sum (tableSound t) (onTheWay t);
+      table·at-stations = λ t. no-sum (tableSound t) (atStations t);
+      table·send-in = λ pool m r after e. rw (e .0, e .1) (in-pool (sendInAnswer pool) _ pool _);
+      table·lose-in = λ pool p r after e. rw (e .0, e .1) (in-pool (loseInAnswer pool p) _ pool _);
+      table·send-value = λ pool m. in-pool (sendInAnswer pool) _ pool _;
+      table·lose-value = λ pool p. in-pool (loseInAnswer pool p) _ pool _;
+      script·open = λ script. opens (ltb mostBytes (length script)) (stationsOf (lineAt script 0)) (pastLine script 0);
+      script·advance = λ script t at. lines t (lineOf (lineAt script at));
+      script·start =
+          λ script run bytes s room f.
+          let o = openOf script in
+          s .says room ∙ output-opened script ∙ one-line script (o .answer) (o .table) (o .at) f;
     }

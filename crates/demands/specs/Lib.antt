@@ -6,6 +6,7 @@ pub mod Wrong
 pub mod WrongTables
 pub mod WrongScripts
 pub mod Demand1
+pub mod Contracts
 pub mod Settled
 pub mod PrintedRun
 pub mod WrongParts

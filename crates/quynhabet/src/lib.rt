@@ -1,5 +1,5 @@
 // The proved library for callers in C and Rust: a station is 134 numbers, a message is 13, and no call has a condition.
-mod exports;
+pub mod exports;
 mod fours;
 mod messages;
 mod moving;
