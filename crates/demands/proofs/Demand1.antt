@@ -6,14 +6,16 @@ use mathlib.Core.List.{List}
 use mathlib.Core.Logic.{_≢_}
 use lib.Dec.{ltb}
 use lib.ListN.{length}
-use Rattle.station.specs.declared.message.Message.{Message}
+use Rattle.rules.specs.declared.message.Message.{Message}
 use Rattle.station.specs.declared.outcome.Outcome.{Outcome}
-use Rattle.station.specs.declared.outcome.Report.{Report}
+use Rattle.rules.specs.declared.report.Report.{Report}
 use Rattle.station.specs.declared.station.Station.{Station}
-use Rattle.station.specs.Answers.{done, notSound, noRecord}
-use Rattle.station.specs.Outcome.{answered, noReport}
+use Rattle.rules.specs.Answers.{done, notSound, noRecord}
+use Rattle.rules.specs.Report.{noReport}
+use Rattle.station.specs.Outcome.{answered}
 use Rattle.station.specs.Sound.{countSound}
-use Rattle.station.specs.Steps.{noMessage, freshAnswer, addAnswer, drawAnswer, showAnswer, showing, receiveAnswer}
+use Rattle.rules.specs.Message.{noMessage}
+use Rattle.station.specs.Steps.{freshAnswer, addAnswer, drawAnswer, showAnswer, showing, receiveAnswer}
 use Rattle.station.specs.Steps.{messageFor, freshOf, addOf, drawOf, showOf, receiveOf}
 use Rattle.record.specs.declared.reading.Reading.{Reading}
 use Rattle.record.specs.declared.writing.Written.{Written}

@@ -1,9 +1,9 @@
 -- The worked script, as its own bytes, prints the printed output, as its own bytes. Assumes nothing.
 use mathlib.Core.Path.{_≡_, refl}
 use Rattle.handshake.specs.Sums.{sumBelow}
-use Rattle.station.specs.Below.{allBelow}
+use Rattle.rules.specs.Below.{allBelow}
 use Rattle.station.specs.Sound.{stationSound, messageSound}
-use Rattle.station.specs.Taking.{takeOf}
+use Rattle.rules.specs.Taking.{takeOf}
 use Rattle.station.specs.Steps.{addOf, drawOf, showOf, receiveOf}
 use Rattle.table.specs.Table.{firstFrom}
 use Rattle.table.specs.Sound.{tableSound}

@@ -12,14 +12,15 @@ use mathlib.Core.Path.{_≡_}
 use mathlib.Core.List.{List, _++_}
 use mathlib.Core.Logic.{_≢_}
 use lib.ListN.{length, replicate, take}
-use Rattle.station.specs.declared.message.Message.{Message}
+use Rattle.rules.specs.declared.message.Message.{Message}
 use Rattle.station.specs.declared.message.Shown.{Shown}
 use Rattle.station.specs.declared.outcome.Outcome.{Outcome}
 use Rattle.station.specs.declared.station.Station.{Station}
-use Rattle.station.specs.Answers.{done}
-use Rattle.station.specs.Limits.{mostStations}
-use Rattle.station.specs.Outcome.{noReport}
-use Rattle.station.specs.Steps.{blank, noMessage, freshOf, addOf, drawOf, showOf, receiveOf, messageFor}
+use Rattle.rules.specs.Answers.{done}
+use Rattle.rules.specs.Limits.{mostStations}
+use Rattle.rules.specs.Report.{noReport}
+use Rattle.rules.specs.Message.{noMessage}
+use Rattle.station.specs.Steps.{blank, freshOf, addOf, drawOf, showOf, receiveOf, messageFor}
 use Rattle.record.specs.declared.reading.Reading.{Reading}
 use Rattle.record.specs.declared.writing.Written.{Written}
 use Rattle.record.specs.Layout.{bytesOf}

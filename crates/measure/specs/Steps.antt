@@ -3,6 +3,9 @@ use Prim.Native.Nat.{ℕ, _+_}
 use mathlib.Core.Bool.{cond}
 use mathlib.Core.List.{List, [], _∷_}
 use lib.Dec.{eqb}
+use mathlib.Core.Path.{_≡_}
+use Rattle.table.specs.Fresh.{freshOf}
+use Rattle.table.specs.Running.{ranOf, toldOf}
 use Rattle.table.specs.Steps.{stepOf}
 use Rattle.table.specs.declared.steps.Step.{Step}
 use Rattle.table.specs.declared.steps.Step.the-variants.{Add, Draw, Send, Deliver, Lose}
@@ -18,3 +21,12 @@ lastResult t last [] = last
 lastResult t last (kind ∷ []) = last
 lastResult t last (kind ∷ a ∷ []) = last
 lastResult t last (kind ∷ a ∷ b ∷ rest) = let s = stepOf t (stepBy kind a b) in lastResult (s .table) (s .result) rest
+
+-- from a fresh table on
+abbrev pub lastResultOf : ℕ → List ℕ → ℕ
+lastResultOf count codes = lastResult (freshOf count .table) 0 codes
+
+-- a run in one call: how many steps were done, and what they told
+pub record RunsFresh (count : ℕ) (codes told : List ℕ) (r : ℕ) (later : List ℕ) : Type 0 where
+  pub ran : r ≡ ranOf (freshOf count .table) codes told .result
+  pub lent : later ≡ toldOf (freshOf count .table) codes told

@@ -1,7 +1,6 @@
-// A run of steps in one call, for benchmarks from Rust: the table stays on this side.
+// Steps from a fresh table on, for benchmarks from Rust: the table stays on this side.
 ghost use mathlib.Core.Path.{_≡_};
-ghost use Rattle.table.specs.Fresh.{freshOf};
-ghost use Rattle.measure.specs.Steps.{stepBy, lastResult};
+ghost use Rattle.measure.specs.Steps.{stepBy, lastResultOf, RunsFresh};
 use table::steps::Step;
 
 // A step of numbers.
@@ -23,10 +22,21 @@ fn step_by(kind: u64, a: u64, b: u64) -> Step
     Step::Lose(a)
 }
 
-// The last result of steps from a fresh table on.
+// A run in one call: how many steps were done.
+#[no_mangle]
+pub extern "C" fn qm_run(count: u64, codes: &[u64], told: &mut [u64]) -> u64
+    ensures { λ r. ⌜ RunsFresh count (now (codes .entry)) (now (told .entry)) r (now (told .exit)) ⌝ }
+{
+    let made = table::fresh_table(count);
+    let t = made.table;
+    let ran = table::run(t, codes, told);
+    ran.result
+}
+
+// A call for each step, with the table by value: the last result.
 #[no_mangle]
 pub extern "C" fn qm_last_result(count: u64, codes: &[u64]) -> u64
-    ensures { λ r. ⌜ r ≡ lastResult (freshOf count .table) 0 (now (codes .entry)) ⌝ }
+    ensures { λ r. ⌜ r ≡ lastResultOf count (now (codes .entry)) ⌝ }
 {
     let made = table::fresh_table(count);
     let mut t = made.table;

@@ -11,11 +11,11 @@ use borrow.Author.Tests.{not-false}
 use mir.Syntax.{w8}
 use mir.Val.{Fits}
 use Rattle.station.specs.declared.station.Station.{Station}
-use Rattle.station.specs.declared.message.Message.{Message}
-use Rattle.station.specs.Outcome.{orElse}
+use Rattle.rules.specs.declared.message.Message.{Message}
+use Rattle.rules.specs.Refusals.{orElse}
 use Rattle.station.specs.Sound.{messageSound}
 use Rattle.station.specs.Steps.{showAnswer, messageFor}
-use Rattle.station.proofs.Answering.{passed}
+use Rattle.rules.proofs.Refusing.{passed}
 use Rattle.station.proofs.Keeps.{message-sound}
 use Rattle.record.specs.declared.reading.Reading.{Reading}
 use Rattle.record.specs.declared.writing.Written.{Written}

@@ -8,7 +8,7 @@ use native.Mathlib.Omega.{arith}
 use lib.Dec.{eqb}
 use lib.ListN.{getD}
 use borrow.Author.Tests.{eqb-true}
-use Rattle.station.proofs.Below.{all-at}
+use Rattle.rules.proofs.Below.{all-at}
 use Rattle.table.specs.declared.steps.Step.{Step}
 use Rattle.table.specs.declared.table.Table.{Table}
 use Rattle.runs.specs.Runs.{Build}

@@ -8,9 +8,9 @@ use native.Mathlib.Omega.{arith}
 use borrow.Author.Tests.{eqb-false}
 use Rattle.handshake.specs.History.{at, transfer, departed, arrived}
 use Rattle.handshake.specs.Sums.{sumBelow}
-use Rattle.station.specs.Below.{allBelow}
+use Rattle.rules.specs.Below.{allBelow}
 use Rattle.station.specs.Sound.{stationSound, messageSound}
-use Rattle.station.specs.Taking.{takeOf}
+use Rattle.rules.specs.Taking.{takeOf}
 use Rattle.station.specs.Steps.{addOf, drawOf, showOf, receiveOf}
 use Rattle.table.specs.Table.{firstFrom}
 use Rattle.table.specs.Sound.{tableSound}

@@ -11,14 +11,14 @@ use lib.ListN.{length}
 use borrow.Author.Tests.{eqb-true, eqb-false, eq-eqb, not-true}
 use Rattle.handshake.specs.Channel.{Held}
 use Rattle.handshake.specs.History.{Transfer, Entry, transfer, departure, arrival, at, Belong}
-use Rattle.station.specs.Below.{allBelow}
-use Rattle.station.specs.Answers.{notSound, valueLimit}
+use Rattle.rules.specs.Below.{allBelow}
+use Rattle.rules.specs.Answers.{notSound, valueLimit}
 use Rattle.station.specs.Held.{slotFor, tokenFor}
-use Rattle.station.specs.declared.held.HeldSlot.{HeldSlot}
-use Rattle.station.specs.declared.held.HeldToken.{HeldToken}
-use Rattle.station.specs.declared.held.HeldToken.the-variants.{NoToken, OneToken}
-use Rattle.station.specs.declared.held.Token.{Token}
-use Rattle.station.proofs.Below.{needed, all-at}
+use Rattle.rules.specs.declared.held.HeldSlot.{HeldSlot}
+use Rattle.rules.specs.declared.held.HeldToken.{HeldToken}
+use Rattle.rules.specs.declared.held.HeldToken.the-variants.{NoToken, OneToken}
+use Rattle.rules.specs.declared.held.Token.{Token}
+use Rattle.rules.proofs.Below.{needed, all-at}
 use Rattle.table.specs.Table.{stationAt}
 use Rattle.table.specs.declared.steps.Step.{Step}
 use Rattle.table.specs.declared.table.Table.{Table}

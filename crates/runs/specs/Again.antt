@@ -2,12 +2,12 @@
 use Prim.Native.Nat.{ℕ}
 use mathlib.Core.Bool.{true, false}
 use mathlib.Core.List.{List, [], _∷_, _++_}
-use Rattle.station.specs.Answers.{done}
-use Rattle.station.specs.Outcome.{noReport}
-use Rattle.station.specs.declared.held.HeldSlot.the-variants.{NoSlot}
-use Rattle.station.specs.declared.held.HeldToken.the-variants.{NoToken}
-use Rattle.station.specs.declared.message.Message.{Message}
-use Rattle.station.specs.declared.outcome.Report.{Report}
+use Rattle.rules.specs.Answers.{done}
+use Rattle.rules.specs.Report.{noReport}
+use Rattle.rules.specs.declared.held.HeldSlot.the-variants.{NoSlot}
+use Rattle.rules.specs.declared.held.HeldToken.the-variants.{NoToken}
+use Rattle.rules.specs.declared.message.Message.{Message}
+use Rattle.rules.specs.declared.report.Report.{Report}
 use Rattle.table.specs.Fresh.{freshOf}
 use Rattle.table.specs.Steps.{stepOf}
 use Rattle.table.specs.declared.steps.Step.{Step}

@@ -3,18 +3,18 @@
 use Prim.Native.Nat.{ℕ, _+_}
 use mathlib.Core.Bool.{Bool, true, false, cond, _||_}
 use mathlib.Core.List.{List, [], _∷_, _++_}
-use Rattle.station.specs.declared.held.HeldSlot.{HeldSlot}
-use Rattle.station.specs.declared.held.HeldSlot.the-variants.{NoSlot, OneSlot}
-use Rattle.station.specs.declared.held.HeldToken.{HeldToken}
-use Rattle.station.specs.declared.held.HeldToken.the-variants.{NoToken, OneToken}
-use Rattle.station.specs.declared.message.Message.{Message}
-use Rattle.station.specs.declared.side.Side.{Side}
-use Rattle.station.specs.declared.rules.Ruled.{Ruled}
-use Rattle.station.specs.declared.taking.Taken.{Taken}
-use Rattle.station.specs.Answers.{notSound}
-use Rattle.station.specs.Side.{putValue, putSlot}
-use Rattle.station.specs.Rules.{acts, rests, agree, fill, dropSlot, openSlot, dropToken, makeToken}
-use Rattle.station.specs.Taking.{reported}
+use Rattle.rules.specs.declared.held.HeldSlot.{HeldSlot}
+use Rattle.rules.specs.declared.held.HeldSlot.the-variants.{NoSlot, OneSlot}
+use Rattle.rules.specs.declared.held.HeldToken.{HeldToken}
+use Rattle.rules.specs.declared.held.HeldToken.the-variants.{NoToken, OneToken}
+use Rattle.rules.specs.declared.message.Message.{Message}
+use Rattle.rules.specs.declared.side.Side.{Side}
+use Rattle.rules.specs.declared.rules.Ruled.{Ruled}
+use Rattle.rules.specs.declared.taking.Taken.{Taken}
+use Rattle.rules.specs.Answers.{notSound}
+use Rattle.rules.specs.Side.{putValue, putSlot}
+use Rattle.rules.specs.Rules.{acts, rests, agree, fill, dropSlot, openSlot, dropToken, makeToken}
+use Rattle.rules.specs.Taking.{reported}
 use Rattle.station.specs.Steps.{drawOf, receiveOf}
 use Rattle.table.specs.declared.steps.Step.{Step}
 use Rattle.table.specs.declared.steps.Step.the-variants.{Add, Draw, Send, Deliver}

@@ -6,10 +6,10 @@ use mathlib.Core.List.{List, _++_}
 use mathlib.Core.Logic.{_≢_}
 use mathlib.Core.Option.{some}
 use Rattle.handshake.specs.History.{Transfer, Entry, transfer, departure, arrival, at, Belong, departed, arrived}
-use Rattle.station.specs.Answers.{notSound, valueLimit}
+use Rattle.rules.specs.Answers.{notSound, valueLimit}
 use Rattle.station.specs.Held.{slotFor, tokenFor}
-use Rattle.station.specs.declared.held.HeldToken.the-variants.{OneToken}
-use Rattle.station.specs.declared.held.Token.{Token}
+use Rattle.rules.specs.declared.held.HeldToken.the-variants.{OneToken}
+use Rattle.rules.specs.declared.held.Token.{Token}
 use Rattle.table.specs.Sound.{tableSound}
 use Rattle.table.specs.Table.{stationAt}
 use Rattle.table.specs.Way.{atStations, onTheWay}

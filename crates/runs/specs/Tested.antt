@@ -7,12 +7,12 @@ use lib.Dec.{eqb}
 use lib.ListN.{length, getD}
 use Rattle.handshake.specs.Channel.{Held}
 use Rattle.handshake.specs.History.{Transfer, Entry, departure, arrival, at, departed, arrived}
-use Rattle.station.specs.Answers.{notSound, valueLimit}
-use Rattle.station.specs.Below.{allBelow}
+use Rattle.rules.specs.Answers.{notSound, valueLimit}
+use Rattle.rules.specs.Below.{allBelow}
 use Rattle.station.specs.Held.{slotFor, tokenFor}
-use Rattle.station.specs.declared.held.HeldSlot.{HeldSlot}
-use Rattle.station.specs.declared.held.HeldToken.{HeldToken}
-use Rattle.station.specs.declared.held.HeldToken.the-variants.{NoToken, OneToken}
+use Rattle.rules.specs.declared.held.HeldSlot.{HeldSlot}
+use Rattle.rules.specs.declared.held.HeldToken.{HeldToken}
+use Rattle.rules.specs.declared.held.HeldToken.the-variants.{NoToken, OneToken}
 use Rattle.table.specs.Sound.{tableSound}
 use Rattle.table.specs.Table.{stationAt}
 use Rattle.table.specs.Way.{atStations, onTheWay}

@@ -1,6 +1,6 @@
 -- The place that a send takes: it was empty, every place before it holds a message, and a place freed by a loss is used again. Assumes nothing.
 use Prim.Native.Nat.{ℕ, zero, suc, _+_, _<_, _≤_}
-use mathlib.Core.Path.{_≡_, refl, ap}
+use mathlib.Core.Path.{_≡_, refl, sym, _∙_, ap}
 use mathlib.Core.Bool.{Bool, true, false}
 use mathlib.Core.List.{List, [], _∷_}
 use native.Mathlib.Omega.{arith}
@@ -8,17 +8,18 @@ use lib.Dec.{ltb}
 use lib.ListN.{set}
 use lib.Seq.{getD-set-other}
 use borrow.Author.Tests.{ltb-true, ltb-false}
-use Rattle.station.specs.declared.message.Message.{Message}
-use Rattle.station.specs.Steps.{showOf}
+use Rattle.rules.specs.declared.message.Message.{Message}
+use Rattle.rules.specs.Refusals.{answerOf}
 use Rattle.table.specs.declared.pool.Waiting.{Waiting}
 use Rattle.table.specs.declared.pool.Waiting.the-variants.{Empty, One}
 use Rattle.table.specs.declared.pool.Place.{Place}
 use Rattle.table.specs.declared.steps.Step.the-variants.{Send, Lose}
 use Rattle.table.specs.declared.stepping.Stepped.{Stepped}
 use Rattle.table.specs.declared.table.Table.{Table}
-use Rattle.table.specs.Table.{mostPlaces, stationAt, placeIn, waitingAt, isEmpty, firstFrom, lowestEmpty}
-use Rattle.table.specs.Sound.{tableSound}
-use Rattle.table.specs.Steps.{planOf, stepOf}
+use Rattle.table.specs.Table.{mostPlaces, placeIn, waitingAt, isEmpty, firstFrom, lowestEmpty}
+use Rattle.table.specs.Steps.{stepRefusals, stepOf}
+use Rattle.table.proofs.Kept.{sends}
+use Rattle.table.proofs.Ran.{step-answers}
 
 -- of the first number from i on at which a test holds: it holds there, and at no number before
 module _ (test : ℕ → Bool) where
@@ -71,23 +72,16 @@ holds Empty e = let z : _≡_ {A = ℕ} 0 1 = cc in absurd (omega arith)
 holds (One m) e = (m, refl)
 
 -- a send that is done, and a loss that is done
-send-by : (t : Table) (from to : ℕ) (a b c : Bool) (n : ℕ) → tableSound t ≡ a → ltb from (t .count) ≡ b → showOf (stationAt t from) to .answer ≡ n
-    → ltb (lowestEmpty (t .pool)) mostPlaces ≡ c → stepOf t (Send from to) .answer ≡ 0
+send-by : (t : Table) (from to : ℕ) → stepOf t (Send from to) .answer ≡ 0
     → (stepOf t (Send from to) .result ≡ lowestEmpty (t .pool)) × (lowestEmpty (t .pool) < mostPlaces)
-unfolding stepOf planOf
-send-by t from to false b c n e f g h z = let x : _≡_ {A = ℕ} 1 0 = rw e at z in absurd (omega arith)
-send-by t from to true false c n e f g h z = let x : _≡_ {A = ℕ} 2 0 = rw (e, f) at z in absurd (omega arith)
-send-by t from to true true c (suc n) e f g h z = let x : suc n ≡ 0 = rw (e, f, g) at z in absurd (omega arith)
-send-by t from to true true false zero e f g h z = let x : _≡_ {A = ℕ} 6 0 = rw (e, f, g, h) at z in absurd (omega arith)
-send-by t from to true true true zero e f g h z = (rw (e, f, g, h), ltb-true _ _ h)
+unfolding stepOf
+send-by t from to z =
+    let e : answerOf (stepRefusals t (Send from to)) ≡ 0 = sym (step-answers t (Send from to)) ∙ z in
+    (rw e, sends t from to e .free)
 
-lose-by : (t : Table) (p : ℕ) (a b : Bool) (w : Waiting) → tableSound t ≡ a → ltb p mostPlaces ≡ b → waitingAt t p ≡ w → stepOf t (Lose p) .answer ≡ 0
-    → stepOf t (Lose p) .table .pool ≡ set (t .pool) p (record { waiting = Empty })
-unfolding stepOf planOf
-lose-by t p false b w e f g z = let x : _≡_ {A = ℕ} 1 0 = rw e at z in absurd (omega arith)
-lose-by t p true false w e f g z = let x : _≡_ {A = ℕ} 7 0 = rw (e, f) at z in absurd (omega arith)
-lose-by t p true true Empty e f g z = let x : _≡_ {A = ℕ} 8 0 = rw (e, f, g) at z in absurd (omega arith)
-lose-by t p true true (One m) e f g z = rw (e, f, g)
+lose-by : (t : Table) (p : ℕ) → stepOf t (Lose p) .answer ≡ 0 → stepOf t (Lose p) .table .pool ≡ set (t .pool) p (record { waiting = Empty })
+unfolding stepOf
+lose-by t p z = let e : answerOf (stepRefusals t (Lose p)) ≡ 0 = sym (step-answers t (Lose p)) ∙ z in rw e
 
 -- what is known of the place that a done send takes
 pub record TakesLowest (t : Table) (x : Stepped) : Type 0 where
@@ -98,7 +92,7 @@ pub record TakesLowest (t : Table) (x : Stepped) : Type 0 where
 
 pub send-takes-lowest : (t : Table) (from to : ℕ) → stepOf t (Send from to) .answer ≡ 0 → TakesLowest t (stepOf t (Send from to))
 send-takes-lowest t from to z =
-    let s = send-by t from to (tableSound t) (ltb from (t .count)) (ltb (lowestEmpty (t .pool)) mostPlaces) (showOf (stationAt t from) to .answer) refl refl refl refl z in
+    let s = send-by t from to z in
     let test : ℕ → Bool = λ q. isEmpty (waitingAt t q) in
     rw (s .0)
     (record {
@@ -119,7 +113,7 @@ module _ (t : Table) (p from to : ℕ) (lost : stepOf t (Lose p) .answer ≡ 0) 
   later = stepOf t (Lose p) .table
 
   pool-later : later .pool ≡ set (t .pool) p (record { waiting = Empty })
-  pool-later = lose-by t p (tableSound t) (ltb p mostPlaces) (waitingAt t p) refl refl refl lost
+  pool-later = lose-by t p lost
 
   -- the next send takes it or an earlier place
   pub freed-at-most : stepOf later (Send from to) .answer ≡ 0 → stepOf later (Send from to) .result ≤ p

@@ -1,10 +1,11 @@
 -- A fresh table: every value, intake and clock 0, and no slot, token or message.
 use Prim.Native.Nat.{ℕ, zero, suc}
-use mathlib.Core.Bool.{cond}
-use mathlib.Core.List.{List}
+use mathlib.Core.Bool.{not}
+use mathlib.Core.List.{List, [], _∷_}
 use lib.ListN.{set, replicate}
 use Rattle.station.specs.declared.station.Station.{Station}
-use Rattle.rules.specs.Answers.{done, notSound}
+use Rattle.rules.specs.Answers.{notSound}
+use Rattle.rules.specs.Refusals.{Refusal, when, answerOf}
 use Rattle.rules.specs.Limits.{mostStations}
 use Rattle.rules.specs.Report.{noReport}
 use Rattle.station.specs.Sound.{countSound}
@@ -13,6 +14,7 @@ use Rattle.table.specs.declared.pool.Waiting.the-variants.{Empty}
 use Rattle.table.specs.declared.table.Table.{Table}
 use Rattle.table.specs.declared.stepping.Stepped.{Stepped}
 use Rattle.table.specs.Table.{mostPlaces}
+use Rattle.table.specs.Steps.{did, answeredStep}
 
 -- fresh stations at the numbers below k; every number 0 and nothing held at the others
 unfoldable pub seatsTo : ℕ → ℕ → List Station
@@ -23,7 +25,9 @@ abbrev pub blankTable : ℕ → Table
 blankTable count = record { count = count; stations = seatsTo count count; pool = replicate mostPlaces (record { waiting = Empty }) }
 
 -- 1 where the count is not 2 to 16; making has result 0
+abbrev pub freshRefusals : ℕ → List Refusal
+freshRefusals count = when (not (countSound count)) notSound ∷ []
+
+-- a refused making hands back every number 0 and nothing held
 unfoldable pub freshOf : ℕ → Stepped
-freshOf count =
-    cond (countSound count) (record { answer = done; result = 0; report = noReport; table = blankTable count })
-    (record { answer = notSound; result = 0; report = noReport; table = blankTable 0 })
+freshOf count = answeredStep (answerOf (freshRefusals count)) (blankTable 0) (did 0 noReport (blankTable count))

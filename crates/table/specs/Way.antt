@@ -1,18 +1,20 @@
 -- The passes at the stations of a table, and the passes on the way.
-use Prim.Native.Nat.{ℕ}
+use Prim.Native.Nat.{ℕ, zero, suc}
 use mathlib.Core.Bool.{cond}
+use mathlib.Core.List.{List, [], _∷_}
 use Rattle.handshake.specs.Sums.{sumBelow}
 use Rattle.rules.specs.declared.held.HeldSlot.{HeldSlot}
 use Rattle.rules.specs.declared.held.HeldSlot.the-variants.{NoSlot, OneSlot}
 use Rattle.rules.specs.declared.held.HeldToken.{HeldToken}
 use Rattle.rules.specs.declared.held.HeldToken.the-variants.{NoToken, OneToken}
-use Rattle.rules.specs.Answers.{done, notSound}
+use Rattle.rules.specs.Answers.{done}
+use Rattle.rules.specs.Refusals.{Refusal, answerOf}
 use Rattle.station.specs.Held.{slotFor, tokenFor}
 use Rattle.rules.specs.Rules.{agree}
 use Rattle.table.specs.declared.table.Table.{Table}
 use Rattle.table.specs.declared.way.Summed.{Summed}
 use Rattle.table.specs.Table.{stationAt}
-use Rattle.table.specs.Sound.{tableSound}
+use Rattle.table.specs.Steps.{unsound}
 
 -- a token is on the way while its destination has a slot for its maker with both clocks the same
 abbrev pub travels : HeldToken → HeldSlot → ℕ
@@ -34,5 +36,15 @@ abbrev pub atStations : Table → ℕ
 atStations t = sumBelow (λ k. stationAt t k .value) (t .count)
 
 -- a sum can be asked of a table: 1 where it is not sound
-abbrev pub asked : Table → ℕ → Summed
-asked t sum = cond (tableSound t) (record { answer = done; result = sum }) (record { answer = notSound; result = 0 })
+abbrev pub sumRefusals : Table → List Refusal
+sumRefusals t = unsound t ∷ []
+
+abbrev pub summed : ℕ → ℕ → Summed
+summed zero sum = record { answer = done; result = sum }
+summed (suc n) sum = record { answer = suc n; result = 0 }
+
+abbrev pub wayAsked : Table → Summed
+wayAsked t = summed (answerOf (sumRefusals t)) (onTheWay t)
+
+abbrev pub stationsAsked : Table → Summed
+stationsAsked t = summed (answerOf (sumRefusals t)) (atStations t)

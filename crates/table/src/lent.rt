@@ -1,6 +1,6 @@
 // A pool that is lent: its places stand in the caller's memory, and a step changes at most one of them.
 ghost use mathlib.Core.Path.{_≡_};
-ghost use Rattle.table.specs.Lent.{sendInTold, sendInPool, loseInTold, loseInPool, cleared, holding};
+ghost use Rattle.table.specs.Lent.{SendsIn, LosesIn, sentValue, lostValue, cleared, holding};
 use crate::pool::Place;
 use crate::pool::Waiting;
 use crate::pool::is_empty;
@@ -31,7 +31,7 @@ fn cleared() -> Place
 
 // The message goes to the lowest-numbered empty place: refused by 1, 6.
 pub fn send_in(pool: &mut [Place], m: Message) -> Told
-    ensures { λ r. ⌜ (r ≡ sendInTold (now (pool .entry))) × (now (pool .exit) ≡ sendInPool (now (pool .entry)) m) ⌝ }
+    ensures { λ r. ⌜ SendsIn (now (pool .entry)) m r (now (pool .exit)) ⌝ }
 {
     if pool.len() != 64 {
         return Told {
@@ -61,7 +61,7 @@ pub fn send_in(pool: &mut [Place], m: Message) -> Told
 
 // A place that holds a message is emptied: refused by 1, 7, 8.
 pub fn lose_in(pool: &mut [Place], p: u64) -> Told
-    ensures { λ r. ⌜ (r ≡ loseInTold (now (pool .entry)) p) × (now (pool .exit) ≡ loseInPool (now (pool .entry)) p) ⌝ }
+    ensures { λ r. ⌜ LosesIn (now (pool .entry)) p r (now (pool .exit)) ⌝ }
 {
     if pool.len() != 64 {
         return Told {
@@ -104,7 +104,7 @@ pub(crate) fn both(told: Told, pool: [Place; 64]) -> Pooled
 
 // The same two steps, on a pool by value. What they promise names no reference, so that a caller needs none.
 pub fn send_value(pool: [Place; 64], m: Message) -> Pooled
-    ensures { λ r. ⌜ r ≡ record { told = sendInTold pool; pool = sendInPool pool m } ⌝ }
+    ensures { λ r. ⌜ r ≡ sentValue pool m ⌝ }
 {
     let mut mine = pool;
     let told = send_in(&mut mine, m);
@@ -112,7 +112,7 @@ pub fn send_value(pool: [Place; 64], m: Message) -> Pooled
 }
 
 pub fn lose_value(pool: [Place; 64], p: u64) -> Pooled
-    ensures { λ r. ⌜ r ≡ record { told = loseInTold pool p; pool = loseInPool pool p } ⌝ }
+    ensures { λ r. ⌜ r ≡ lostValue pool p ⌝ }
 {
     let mut mine = pool;
     let told = lose_in(&mut mine, p);

@@ -4,7 +4,7 @@ ghost use mathlib.Core.Bool.{true};
 ghost use Prim.Native.Nat.{_<_, _≤_, _*_};
 ghost use Rattle.rules.specs.Limits.{mostValue, mostStations};
 ghost use Rattle.table.specs.Sound.{tableSound};
-ghost use Rattle.table.specs.Way.{travels, wayFrom, onTheWay, atStations, asked};
+ghost use Rattle.table.specs.Way.{travels, wayFrom, onTheWay, atStations, wayAsked, stationsAsked};
 use crate::sound::table_is_sound;
 use crate::table::Table;
 use rules::answers;
@@ -86,7 +86,7 @@ fn values_of_all(t: Table) -> u64
 
 // The sum on the way: refused by 1.
 pub fn on_the_way(t: Table) -> Summed
-    ensures { λ r. ⌜ r ≡ asked t (onTheWay t) ⌝ }
+    ensures { λ r. ⌜ r ≡ wayAsked t ⌝ }
 {
     if !table_is_sound(t) {
         return Summed {
@@ -102,7 +102,7 @@ pub fn on_the_way(t: Table) -> Summed
 
 // The passes at all stations: refused by 1.
 pub fn at_stations(t: Table) -> Summed
-    ensures { λ r. ⌜ r ≡ asked t (atStations t) ⌝ }
+    ensures { λ r. ⌜ r ≡ stationsAsked t ⌝ }
 {
     if !table_is_sound(t) {
         return Summed {
