@@ -8,7 +8,7 @@ use Rattle.rules.specs.Taking.{takeOf}
 use Rattle.station.specs.Steps.{addOf, showOf, receiveOf}
 use Rattle.table.specs.Fresh.{seatsTo, freshOf}
 use Rattle.table.specs.Sound.{tableSound}
-use Rattle.table.specs.Steps.{planOf, stepOf}
+use Rattle.table.specs.Steps.{stepOf}
 use Rattle.table.specs.Table.{stationAt, waitingAt, firstFrom}
 use Rattle.table.specs.declared.pool.Waiting.the-variants.{One}
 use Rattle.table.specs.declared.steps.Step.the-variants.{Deliver}
@@ -28,7 +28,7 @@ pub record ActsAgain (first again : Table) : Type 0 where
   pub no-nod : stepOf again (Deliver 0) ≡ nod again → ⊥
 
 pub acts-again : ActsAgain atFirst atAgain
-unfolding addOf showOf receiveOf takeOf stationSound messageSound allBelow firstFrom tableSound seatsTo freshOf planOf stepOf tableAfter
+unfolding addOf showOf receiveOf takeOf stationSound messageSound allBelow firstFrom tableSound seatsTo freshOf stepOf tableAfter
 acts-again =
     record {
       first-message = refl;

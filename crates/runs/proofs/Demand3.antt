@@ -18,7 +18,7 @@ use Rattle.rules.proofs.Below.{needed}
 use Rattle.rules.specs.declared.held.HeldToken.the-variants.{OneToken}
 use Rattle.rules.specs.declared.held.Token.{Token}
 use Rattle.table.specs.Fresh.{freshOf}
-use Rattle.table.specs.Steps.{planBy, planOf, stepOf}
+use Rattle.table.specs.Steps.{stepOf}
 use Rattle.table.specs.Table.{stationAt}
 use Rattle.table.specs.declared.steps.Step.{Step}
 use Rattle.table.specs.declared.steps.Step.the-variants.{Add, Draw, Send, Deliver, Lose}
@@ -29,19 +29,19 @@ use Rattle.runs.specs.Runs.{Line, lineOf, logOf, tableAfter, addedBy, dr
 use Rattle.runs.proofs.FreshReached.{fresh-reached}
 use Rattle.runs.proofs.DeliverStep.{deliver-goes}
 use Rattle.runs.proofs.PlaceSteps.{send-goes, lose-goes}
-use Rattle.runs.proofs.Refused.{Plain, PlanGoes}
+use Rattle.runs.proofs.Refused.{Plain, StepGoes}
 use Rattle.runs.proofs.StockSteps.{add-goes, draw-goes}
 use Rattle.runs.proofs.Reached.{Reached, Goes, goes-on}
 use Rattle.runs.proofs.Ruled.{misfit}
 use Rattle.runs.proofs.Seen.{tokenSeen, webOf}
 
 -- one step, each by its own reason
-plan-goes : {t : Table} {H : List (Entry ℕ)} {plus minus : ℕ} → Reached t H plus minus → (step : Step) → PlanGoes t step H (planBy t step)
-plan-goes r (Add k amount) = add-goes r k amount
-plan-goes r (Draw k amount) = draw-goes r k amount
-plan-goes r (Send from to) = send-goes r from to
-plan-goes r (Deliver p) = deliver-goes r p
-plan-goes r (Lose p) = lose-goes r p
+by-step : {t : Table} {H : List (Entry ℕ)} {plus minus : ℕ} → Reached t H plus minus → (step : Step) → StepGoes t step H (stepOf t step)
+by-step r (Add k amount) = add-goes r k amount
+by-step r (Draw k amount) = draw-goes r k amount
+by-step r (Send from to) = send-goes r from to
+by-step r (Deliver p) = deliver-goes r p
+by-step r (Lose p) = lose-goes r p
 
 module _ {t : Table} {H : List (Entry ℕ)} {plus minus : ℕ} (r : Reached t H plus minus) (step : Step) where
   abbrev line : Line
@@ -51,12 +51,10 @@ module _ {t : Table} {H : List (Entry ℕ)} {plus minus : ℕ} (r : Reached t H 
   made = entriesBy (line .delivered) (line .result) (line .report)
 
   step-goes : Goes t (stepOf t step .table) H made (addedBy step (line .answer)) (drawnBy step (line .result))
-  unfolding stepOf planOf
-  step-goes = rw (r .sound) (plan-goes r step .goes)
+  step-goes = by-step r step .goes
 
   step-plain : Plain (line .answer)
-  unfolding stepOf planOf
-  step-plain = rw (r .sound) (plan-goes r step .answer)
+  step-plain = by-step r step .answer
 
   step-reached : Reached (stepOf t step .table) (H ++ made) (plus + addedBy step (line .answer)) (minus + drawnBy step (line .result))
   step-reached = goes-on r step-goes (step-keeps t step (r .sound))

@@ -1,7 +1,7 @@
--- What a plan comes to as a step of a run; a refusal changes and reports nothing. Assumes nothing.
+-- What a step comes to in a run; a refusal changes and reports nothing. Assumes nothing.
 use Prim.Native.Nat.{ℕ, zero, suc}
 use mathlib.Core.Path.{_≡_, refl}
-use mathlib.Core.Bool.{Bool, true, false, _||_, or-true, true≢false}
+use mathlib.Core.Bool.{Bool, true, false, cond, _||_, true≢false, or-true}
 use mathlib.Core.List.{List, [], _++_}
 use mathlib.Core.Logic.{_≢_}
 use native.Mathlib.Omega.{arith}
@@ -10,17 +10,16 @@ use borrow.Author.Tests.{eq-eqb, ne-eqb}
 use Rattle.handshake.specs.History.{Entry}
 use Rattle.rules.specs.Answers.{notSound, valueLimit}
 use Rattle.rules.specs.Report.{noReport}
-use Rattle.rules.specs.Refusals.{first, orElse}
 use Rattle.rules.specs.declared.held.HeldSlot.{HeldSlot}
 use Rattle.rules.specs.declared.held.HeldSlot.the-variants.{NoSlot, OneSlot}
 use Rattle.rules.specs.declared.held.HeldToken.{HeldToken}
 use Rattle.rules.specs.declared.held.HeldToken.the-variants.{NoToken, OneToken}
-use Rattle.table.specs.Steps.{refusedPlan, planned, applied}
-use Rattle.table.specs.declared.planning.Plan.{Plan}
-use Rattle.table.specs.declared.steps.Step.{Step}
-use Rattle.table.specs.declared.steps.Step.the-variants.{Add, Draw, Send, Deliver, Lose}
+use Rattle.table.specs.Steps.{answeredStep}
 use Rattle.table.specs.declared.pool.Waiting.{Waiting}
 use Rattle.table.specs.declared.pool.Waiting.the-variants.{Empty, One}
+use Rattle.table.specs.declared.steps.Step.{Step}
+use Rattle.table.specs.declared.steps.Step.the-variants.{Add, Draw, Send, Deliver, Lose}
+use Rattle.table.specs.declared.stepping.Stepped.{Stepped}
 use Rattle.table.specs.declared.table.Table.{Table}
 use Rattle.runs.specs.Runs.{messageIn, addedBy, drawnBy, arrivalBy, departureBy, entriesBy}
 use Rattle.runs.proofs.Reached.{Reached, Goes}
@@ -30,10 +29,10 @@ use Rattle.runs.proofs.Changes.{nothing-goes}
 abbrev pub Plain : ℕ → Type 0
 Plain n = (n ≢ notSound) × (n ≢ valueLimit)
 
--- what a plan comes to as a step of a run
-pub record PlanGoes (t : Table) (step : Step) (H : List (Entry ℕ)) (p : Plan) : Type 0 where
-  pub goes : Goes t (applied t p) H (entriesBy (messageIn t step) (p .result) (p .report)) (addedBy step (p .answer)) (drawnBy step (p .result))
-  pub answer : Plain (p .answer)
+-- what a step comes to in a run
+pub record StepGoes (t : Table) (step : Step) (H : List (Entry ℕ)) (s : Stepped) : Type 0 where
+  pub goes : Goes t (s .table) H (entriesBy (messageIn t step) (s .result) (s .report)) (addedBy step (s .answer)) (drawnBy step (s .result))
+  pub answer : Plain (s .answer)
 
 -- a refusal makes no entry, adds nothing and draws nothing
 no-entries : (v : Waiting) → entriesBy v 0 noReport ≡ []
@@ -61,22 +60,17 @@ draws-nothing (Deliver p) = refl
 draws-nothing (Lose p) = refl
 
 -- the first refusal that applies is plain, or a later one is
-pub plain-first : (b : Bool) (n later : ℕ) → Plain n → (b ≡ false → Plain later) → Plain (first b n later)
+pub plain-first : (b : Bool) (n later : ℕ) → Plain n → (b ≡ false → Plain later) → Plain (cond b n later)
 plain-first true n later p q = p
 plain-first false n later p q = q refl
-
-pub plain-else : (n later : ℕ) → Plain n → Plain later → Plain (orElse n later)
-plain-else zero later p q = q
-plain-else (suc n) later p q = p
 
 -- each number but 1 and 10
 pub plain : (n : ℕ) → (eqb n notSound || eqb n valueLimit) ≡ false → Plain n
 plain n e = (λ f. true≢false (rw (eq-eqb n notSound f) at e), λ f. true≢false (rw (eq-eqb n valueLimit f, or-true) at e))
 
 module _ {t : Table} {H : List (Entry ℕ)} {plus minus : ℕ} (r : Reached t H plus minus) where
-  pub refused-goes : (step : Step) (n : ℕ) → Plain (suc n) → PlanGoes t step H (refusedPlan (suc n))
-  refused-goes step n p = record { goes = rw (no-entries (messageIn t step), adds-nothing step n, draws-nothing step) (nothing-goes r); answer = p }
-
-  pub by-plan : (step : Step) (n : ℕ) (p : Plan) → Plain n → (n ≡ 0 → PlanGoes t step H p) → PlanGoes t step H (planned n p)
-  by-plan step zero p a f = f refl
-  by-plan step (suc n) p a f = refused-goes step n a
+  -- a step that is refused, or done
+  pub by-answer : (step : Step) (n : ℕ) (d : Stepped) → Plain n → (n ≡ 0 → StepGoes t step H d) → StepGoes t step H (answeredStep n t d)
+  by-answer step zero d a f = f refl
+  by-answer step (suc n) d a f =
+      record { goes = rw (no-entries (messageIn t step), adds-nothing step n, draws-nothing step) (nothing-goes r); answer = a }

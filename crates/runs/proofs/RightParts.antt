@@ -6,7 +6,6 @@ use mathlib.Core.Bool.{true}
 use mathlib.Core.List.{List, [], _∷_, map}
 use Rattle.handshake.specs.History.{departure, transfer}
 use Rattle.handshake.specs.Sums.{sumBelow}
-use Rattle.station.specs.declared.station.Station.{Station}
 use Rattle.rules.specs.Below.{allBelow}
 use Rattle.station.specs.Sound.{stationSound, messageSound}
 use Rattle.rules.specs.Taking.{takeOf}
@@ -16,30 +15,30 @@ use Rattle.table.specs.declared.pool.Waiting.the-variants.{Empty, One}
 use Rattle.table.specs.declared.steps.Step.{Step}
 use Rattle.table.specs.declared.steps.Step.the-variants.{Add, Draw, Send, Deliver, Lose}
 use Rattle.table.specs.declared.table.Table.{Table}
-use Rattle.table.specs.Table.{firstFrom, stationAt, waitingAt, receiverOf}
+use Rattle.table.specs.Table.{firstFrom, waitingAt}
 use Rattle.table.specs.Sound.{tableSound}
 use Rattle.table.specs.Fresh.{seatsTo, freshOf}
-use Rattle.table.specs.Steps.{deliverBy, planOf, stepOf}
+use Rattle.table.specs.Steps.{delivered, stepOf}
 use Rattle.table.specs.Way.{atStations, onTheWay}
 use Rattle.runs.specs.Runs.{logOf, tableAfter, added, drawn, historyOf, amounting}
-use Rattle.runs.specs.Builds.{rightTaking, deliverWith, builtWith, deliversBy, deliversUnasked, drawsBy}
+use Rattle.runs.specs.Builds.{rightTaking, rightDrawing, deliveredBy, builtWith, deliversBy, deliversUnasked, drawsBy}
 use Rattle.runs.specs.Broken.{oldToken, slotAgain, tokenComes, tokenOfNothing, nothingAgain, overdrawn}
 
-delivers-right : (w : Waiting) (s : Station) → deliverWith receiveOf w s ≡ deliverBy w s
-delivers-right Empty s = refl
-delivers-right (One m) s = refl
-
-pub right-draw : (t : Table) (step : Step) → drawsBy drawOf t step ≡ stepOf t step
-unfolding builtWith planOf stepOf
-right-draw t (Add k amount) = refl
-right-draw t (Draw k amount) = refl
-right-draw t (Send from to) = refl
-right-draw t (Deliver p) = rw (delivers-right (waitingAt t p) (stationAt t (receiverOf (waitingAt t p))))
-right-draw t (Lose p) = refl
+delivers-right : (t : Table) (w : Waiting) → deliveredBy rightTaking t w ≡ delivered t w
+unfolding takeOf
+delivers-right t Empty = refl
+delivers-right t (One m) = refl
 
 pub right-taking : (t : Table) (step : Step) → deliversBy rightTaking t step ≡ stepOf t step
-unfolding builtWith receiveOf takeOf
-right-taking t step = right-draw t step
+unfolding builtWith stepOf
+right-taking t (Add k amount) = refl
+right-taking t (Draw k amount) = refl
+right-taking t (Send from to) = refl
+right-taking t (Deliver p) = rw (delivers-right t (waitingAt t p))
+right-taking t (Lose p) = refl
+
+pub right-draw : (t : Table) (step : Step) → drawsBy rightDrawing t step ≡ stepOf t step
+right-draw t step = right-taking t step
 
 -- the passes that are there and those drawn, and all that were added
 abbrev balanceOf : List Step → List ℕ
@@ -50,12 +49,12 @@ balanceOf steps =
 
 pub right-balances : map balanceOf (oldToken ∷ slotAgain ∷ tokenComes ∷ nothingAgain ∷ overdrawn ∷ [])
     ≡ (10 ∷ 10 ∷ []) ∷ (10 ∷ 10 ∷ []) ∷ (10 ∷ 10 ∷ []) ∷ (10 ∷ 10 ∷ []) ∷ (10 ∷ 10 ∷ []) ∷ []
-unfolding addOf drawOf showOf receiveOf takeOf stationSound messageSound allBelow firstFrom tableSound seatsTo freshOf planOf stepOf sumBelow logOf tableAfter added drawn
+unfolding addOf drawOf showOf receiveOf takeOf stationSound messageSound allBelow firstFrom tableSound seatsTo freshOf stepOf sumBelow logOf tableAfter added drawn
 right-balances = refl
 
 -- the token of 0 departs once, also where no soundness is asked, and leaves a sound table
 pub right-departs-once : historyOf (logOf stepOf (freshOf 2 .table) nothingAgain) ≡ departure (transfer 0 1 (amounting 0 0 0)) ∷ []
-unfolding addOf drawOf showOf receiveOf takeOf stationSound messageSound allBelow firstFrom tableSound seatsTo freshOf planOf stepOf logOf historyOf
+unfolding addOf drawOf showOf receiveOf takeOf stationSound messageSound allBelow firstFrom tableSound seatsTo freshOf stepOf logOf historyOf
 right-departs-once = refl
 
 pub right-departs-once-unasked : historyOf (logOf (deliversUnasked rightTaking) (freshOf 2 .table) nothingAgain) ≡ departure (transfer 0 1 (amounting 0 0 0)) ∷ []
@@ -63,5 +62,5 @@ unfolding addOf drawOf showOf stationSound messageSound allBelow firstFrom table
 right-departs-once-unasked = refl
 
 pub right-sound : tableSound (tableAfter stepOf (freshOf 2 .table) tokenOfNothing) ≡ true
-unfolding addOf drawOf showOf receiveOf takeOf stationSound messageSound allBelow firstFrom tableSound seatsTo freshOf planOf stepOf tableAfter
+unfolding addOf drawOf showOf receiveOf takeOf stationSound messageSound allBelow firstFrom tableSound seatsTo freshOf stepOf tableAfter
 right-sound = refl

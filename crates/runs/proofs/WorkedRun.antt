@@ -9,14 +9,14 @@ use Rattle.station.specs.Steps.{addOf, drawOf, showOf, receiveOf}
 use Rattle.table.specs.Table.{firstFrom}
 use Rattle.table.specs.Sound.{tableSound}
 use Rattle.table.specs.Fresh.{seatsTo, freshOf}
-use Rattle.table.specs.Steps.{planOf, stepOf}
+use Rattle.table.specs.Steps.{stepOf}
 use Rattle.runs.specs.Runs.{logOf, tableAfter, historyOf}
 use Rattle.runs.specs.Worked.{worked, stepLines, outputOf, workedOutput, workedHistory}
 
 pub worked-output : outputOf (tableAfter stepOf (freshOf 2 .table) worked) (logOf stepOf (freshOf 2 .table) worked) ≡ workedOutput
-unfolding addOf drawOf showOf receiveOf takeOf stationSound messageSound allBelow firstFrom tableSound seatsTo freshOf planOf stepOf sumBelow logOf tableAfter stepLines
+unfolding addOf drawOf showOf receiveOf takeOf stationSound messageSound allBelow firstFrom tableSound seatsTo freshOf stepOf sumBelow logOf tableAfter stepLines
 worked-output = refl
 
 pub worked-history : historyOf (logOf stepOf (freshOf 2 .table) worked) ≡ workedHistory
-unfolding addOf drawOf showOf receiveOf takeOf stationSound messageSound allBelow firstFrom tableSound seatsTo freshOf planOf stepOf logOf historyOf
+unfolding addOf drawOf showOf receiveOf takeOf stationSound messageSound allBelow firstFrom tableSound seatsTo freshOf stepOf logOf historyOf
 worked-history = refl

@@ -14,11 +14,12 @@ use Rattle.rules.specs.declared.side.Side.{Side}
 use Rattle.rules.specs.declared.rules.Ruled.{Ruled}
 use Rattle.rules.specs.Limits.{lastClock}
 use Rattle.rules.specs.Report.{noReport}
-use Rattle.station.specs.Outcome.{answered}
 use Rattle.rules.specs.Side.{putValue, putSlot, putToken}
 use Rattle.rules.specs.Rules.{acts, rests, fill, dropSlot, openSlot, dropToken, give, makeToken}
 use Rattle.rules.specs.Taking.{reported}
-use Rattle.station.specs.Steps.{told, putStock, drawAnswer}
+use Rattle.station.specs.Steps.{putStock}
+use Rattle.table.specs.Table.{stationAt, putStation}
+use Rattle.table.specs.Steps.{did}
 use Rattle.table.specs.declared.steps.Step.{Step}
 use Rattle.table.specs.declared.steps.Step.the-variants.{Add, Draw, Send, Deliver}
 use Rattle.runs.specs.Runs.{Build}
@@ -102,7 +103,7 @@ nothingAgain = tokenOfNothing ++ (Deliver 1 ∷ [])
 
 -- 5. A draw with an invented result: the amount asked, not what was taken.
 abbrev invents : Drawing
-invents s amount = answered (drawAnswer s amount) s (told amount noReport (putStock s (s .value - min (s .value) amount) (s .intake)))
+invents t k amount = let s = stationAt t k in did amount noReport (putStation t k (putStock s (s .value - min (s .value) amount) (s .intake)))
 
 abbrev pub inventedDraw : Build
 inventedDraw = drawsBy invents

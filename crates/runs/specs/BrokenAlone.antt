@@ -11,15 +11,13 @@ use Rattle.rules.specs.declared.message.Message.{Message}
 use Rattle.rules.specs.declared.side.Side.{Side}
 use Rattle.rules.specs.declared.rules.Ruled.{Ruled}
 use Rattle.rules.specs.declared.taking.Taken.{Taken}
-use Rattle.rules.specs.Answers.{notSound}
 use Rattle.rules.specs.Side.{putValue, putSlot}
 use Rattle.rules.specs.Rules.{acts, rests, agree, fill, dropSlot, openSlot, dropToken, makeToken}
 use Rattle.rules.specs.Taking.{reported}
-use Rattle.station.specs.Steps.{drawOf, receiveOf}
 use Rattle.table.specs.declared.steps.Step.{Step}
 use Rattle.table.specs.declared.steps.Step.the-variants.{Add, Draw, Send, Deliver}
 use Rattle.runs.specs.Runs.{Build}
-use Rattle.runs.specs.Builds.{Rule, Taking, takesBy, rightTaking, deliversBy, builtWith}
+use Rattle.runs.specs.Builds.{Rule, Taking, takesBy, rightTaking, deliversBy, refusesAll}
 use Rattle.runs.specs.Broken.{slotShown, tokenOfNothing}
 
 -- a build with another rule 5, and one with another rule 1
@@ -78,7 +76,7 @@ tokenMade = slotShown ++ (Deliver 1 ∷ [])
 
 -- answers: every table is taken for unsound
 abbrev pub neverSound : Build
-neverSound = builtWith (λ t. notSound) drawOf receiveOf
+neverSound = refusesAll
 
 abbrev pub oneAdd : List Step
 oneAdd = Add 0 10 ∷ []

@@ -1,39 +1,40 @@
 -- Builds put together from given parts, so that one part can be a wrong one. With the right parts it is the right build.
 use Prim.Native.Nat.{ℕ}
-use Rattle.station.specs.declared.station.Station.{Station}
+use mathlib.Core.Bool.{true, not}
+use mathlib.Core.List.{List, [], _∷_}
+use lib.Dec.{ltb}
 use Rattle.rules.specs.declared.message.Message.{Message}
-use Rattle.station.specs.declared.outcome.Outcome.{Outcome}
-use Rattle.rules.specs.declared.side.Side.{Side}
 use Rattle.rules.specs.declared.rules.Ruled.{Ruled}
+use Rattle.rules.specs.declared.side.Side.{Side}
 use Rattle.rules.specs.declared.taking.Taken.{Taken}
-use Rattle.rules.specs.Answers.{done, emptyPlace}
-use Rattle.station.specs.Outcome.{answered}
-use Rattle.station.specs.Side.{sideFor}
+use Rattle.rules.specs.Answers.{notSound, noSuchPlace, emptyPlace}
+use Rattle.rules.specs.Refusals.{Refusal, when, answerOf}
+use Rattle.rules.specs.Report.{noReport}
 use Rattle.rules.specs.Rules.{fill, dropSlot, openSlot, dropToken, makeToken}
 use Rattle.rules.specs.Taking.{reported}
-use Rattle.station.specs.Steps.{drawOf, receiveAnswer, received, receiveOf}
+use Rattle.station.specs.Side.{sideFor, putSide}
 use Rattle.table.specs.declared.pool.Waiting.{Waiting}
 use Rattle.table.specs.declared.pool.Waiting.the-variants.{Empty, One}
-use Rattle.table.specs.declared.planning.Plan.{Plan}
 use Rattle.table.specs.declared.steps.Step.{Step}
 use Rattle.table.specs.declared.steps.Step.the-variants.{Add, Draw, Send, Deliver, Lose}
+use Rattle.table.specs.declared.stepping.Stepped.{Stepped}
 use Rattle.table.specs.declared.table.Table.{Table}
-use Rattle.table.specs.Table.{stationAt, waitingAt, receiverOf}
-use Rattle.table.specs.Steps.{refusedPlan, stationPlan, planned, atStation, placeAnswer, planBy, tableAnswer, applied}
+use Rattle.table.specs.Table.{mostPlaces, isEmpty, stationAt, waitingAt, putStation}
+use Rattle.table.specs.Steps.{did, answeredStep, stepRefusals, stepDone}
 use Rattle.runs.specs.Runs.{Build}
 
--- a rule, the taking of a message by the rules, the receiving of one at a station, and a draw
+-- a rule, the taking of a message by the rules, what a draw of an amount does at a station, and the refusals of a step
 abbrev pub Rule : Type 0
 Rule = Side → Message → Ruled
 
 abbrev pub Taking : Type 0
 Taking = Side → Message → Taken
 
-abbrev pub Receiving : Type 0
-Receiving = Station → Message → Outcome
-
 abbrev pub Drawing : Type 0
-Drawing = Station → ℕ → Outcome
+Drawing = Table → ℕ → ℕ → Stepped
+
+abbrev pub Refusing : Type 0
+Refusing = Table → Step → List Refusal
 
 -- five rules in order, each at what the earlier ones left
 abbrev pub takesBy : Rule → Rule → Rule → Rule → Rule → Taking
@@ -47,37 +48,51 @@ takesBy rule1 rule2 rule3 rule4 rule5 x m =
 abbrev pub rightTaking : Taking
 rightTaking = takesBy fill dropSlot openSlot dropToken makeToken
 
--- receiving by a given taking, with the refusals as they are
-abbrev pub receivesBy : Taking → Receiving
-receivesBy takes s m = answered (receiveAnswer s m) s (received s m (takes (sideFor s (m .from)) m))
+abbrev pub rightDrawing : Drawing
+rightDrawing t k amount = stepDone t (Draw k amount)
+
+-- a delivery by a given taking
+abbrev pub deliveredBy : Taking → Table → Waiting → Stepped
+deliveredBy takes t Empty = did 0 noReport t
+deliveredBy takes t (One m) =
+    let s = stationAt t (m .to) in
+    let r = takes (sideFor s (m .from)) m in
+    did (r .result) (r .report) (putStation t (m .to) (putSide s (m .from) (r .side)))
 
 -- a draw and a delivery with the given parts; add, send and lose as they are
-abbrev pub deliverWith : Receiving → Waiting → Station → Plan
-deliverWith receives Empty s = refusedPlan emptyPlace
-deliverWith receives (One m) s = let r = receives s m in planned (r .answer) (stationPlan (m .to) r)
+abbrev doneWith : Drawing → Taking → Table → Step → Stepped
+doneWith draws takes t (Add k amount) = stepDone t (Add k amount)
+doneWith draws takes t (Draw k amount) = draws t k amount
+doneWith draws takes t (Send from to) = stepDone t (Send from to)
+doneWith draws takes t (Deliver p) = deliveredBy takes t (waitingAt t p)
+doneWith draws takes t (Lose p) = stepDone t (Lose p)
 
-abbrev planWith : Drawing → Receiving → Table → Step → Plan
-planWith draws receives t (Add k amount) = planBy t (Add k amount)
-planWith draws receives t (Draw k amount) = atStation k (t .count) (draws (stationAt t k) amount)
-planWith draws receives t (Send from to) = planBy t (Send from to)
-planWith draws receives t (Deliver p) =
-    planned (placeAnswer p) (deliverWith receives (waitingAt t p) (stationAt t (receiverOf (waitingAt t p))))
-planWith draws receives t (Lose p) = planBy t (Lose p)
-
--- the answer that comes first, whether the table is sound, is a part too
-unfoldable pub builtWith : (Table → ℕ) → Drawing → Receiving → Build
-builtWith answers draws receives t step =
-    let p = planned (answers t) (planWith draws receives t step) in
-    record { answer = p .answer; result = p .result; report = p .report; table = applied t p }
+unfoldable pub builtWith : Refusing → Drawing → Taking → Build
+builtWith refuses draws takes t step = answeredStep (answerOf (refuses t step)) t (doneWith draws takes t step)
 
 -- only the taking is given
 abbrev pub deliversBy : Taking → Build
-deliversBy takes = builtWith tableAnswer drawOf (receivesBy takes)
+deliversBy takes = builtWith stepRefusals rightDrawing takes
 
--- only the taking is given, and all that is lent is taken for sound: no delivery of a message is refused
+-- all that is lent is taken for sound: the first refusal is left out, and no delivery of a message is refused
+abbrev later : List Refusal → List Refusal
+later [] = []
+later (r ∷ rs) = rs
+
+abbrev unasked : Refusing
+unasked t (Add k amount) = later (stepRefusals t (Add k amount))
+unasked t (Draw k amount) = later (stepRefusals t (Draw k amount))
+unasked t (Send from to) = later (stepRefusals t (Send from to))
+unasked t (Deliver p) = when (not (ltb p mostPlaces)) noSuchPlace ∷ when (isEmpty (waitingAt t p)) emptyPlace ∷ []
+unasked t (Lose p) = later (stepRefusals t (Lose p))
+
 abbrev pub deliversUnasked : Taking → Build
-deliversUnasked takes = builtWith (λ t. done) drawOf (λ s m. received s m (takes (sideFor s (m .from)) m))
+deliversUnasked takes = builtWith unasked rightDrawing takes
 
 -- only the draw is given
 abbrev pub drawsBy : Drawing → Build
-drawsBy draws = builtWith tableAnswer draws receiveOf
+drawsBy draws = builtWith stepRefusals draws rightTaking
+
+-- every table is taken for unsound
+abbrev pub refusesAll : Build
+refusesAll = builtWith (λ t step. when true notSound ∷ []) rightDrawing rightTaking
