@@ -13,9 +13,9 @@ use Rattle.record.specs.AtStation.{receiveBytesOf}
 use Rattle.table.specs.Table.{firstFrom}
 use Rattle.table.specs.Sound.{tableSound}
 use Rattle.table.specs.Fresh.{seatsTo, freshOf}
-use Rattle.table.specs.Steps.{planOf, stepOf}
+use Rattle.table.specs.Steps.{stepOf}
 use Rattle.demands.specs.Done.{doneAnswers}
 
 pub all-done : doneAnswers ≡ replicate (length doneAnswers) 0
-unfolding freshStation addOf drawOf showOf receiveOf takeOf stationSound messageSound allBelow bytesOf big numberAt fieldAt isRecord readAt receiveBytesOf firstFrom tableSound seatsTo freshOf planOf stepOf sumBelow
+unfolding freshStation addOf drawOf showOf receiveOf takeOf stationSound messageSound allBelow bytesOf big numberAt fieldAt isRecord readAt receiveBytesOf firstFrom tableSound seatsTo freshOf stepOf sumBelow
 all-done = refl

@@ -8,7 +8,7 @@ use Rattle.station.specs.Steps.{addOf, drawOf, showOf, receiveOf}
 use Rattle.table.specs.Table.{firstFrom}
 use Rattle.table.specs.Sound.{tableSound}
 use Rattle.table.specs.Fresh.{seatsTo, freshOf}
-use Rattle.table.specs.Steps.{planOf, stepOf}
+use Rattle.table.specs.Steps.{stepOf}
 use Rattle.script.specs.Words.{numeralOf}
 use Rattle.script.specs.Lines.{lineOf, stationsOf}
 use Rattle.script.specs.Decimal.{digitsBy}
@@ -16,5 +16,5 @@ use Rattle.script.specs.Script.{stationLines, runFrom, outputOf}
 use Rattle.demands.specs.WorkedScript.{scriptBytes, printedBytes}
 
 pub worked-bytes : outputOf scriptBytes ≡ printedBytes
-unfolding addOf drawOf showOf receiveOf takeOf stationSound messageSound allBelow firstFrom tableSound seatsTo freshOf planOf stepOf sumBelow outputOf stationsOf numeralOf lineOf runFrom stationLines digitsBy
+unfolding addOf drawOf showOf receiveOf takeOf stationSound messageSound allBelow firstFrom tableSound seatsTo freshOf stepOf sumBelow outputOf stationsOf numeralOf lineOf runFrom stationLines digitsBy
 worked-bytes = refl

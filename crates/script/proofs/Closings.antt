@@ -13,7 +13,8 @@ use Rattle.table.specs.declared.way.Summed.{Summed}
 use Rattle.table.specs.Table.{stationAt}
 use Rattle.table.specs.Sound.{tableSound}
 use Rattle.handshake.specs.Sums.{sumBelow}
-use Rattle.table.specs.Way.{asked, atStations, between, onTheWay, wayFrom}
+use Rattle.rules.specs.Refusals.{answerOf}
+use Rattle.table.specs.Way.{sumRefusals, summed, atStations, between, onTheWay, wayFrom}
 use Rattle.table.proofs.Tables.{table-parts}
 use Rattle.table.proofs.Sums.{between-small, station-sound}
 use Rattle.script.specs.Script.{stationLines}
@@ -66,5 +67,5 @@ module _ (t : Table) (e : tableSound t ≡ true) where
       omega (arith, sum-small (wayFrom t) (mostStations * mostValue) (t .count) way-from-small)
 
 -- a sum that was asked for is told where the table is sound
-pub sum-told : (t : Table) (sum : ℕ) {r : Summed} → r ≡ asked t sum → tableSound t ≡ true → r .result ≡ sum
+pub sum-told : (t : Table) (sum : ℕ) {r : Summed} → r ≡ summed (answerOf (sumRefusals t)) sum → tableSound t ≡ true → r .result ≡ sum
 sum-told t sum e f = ap (λ (s : Summed). s .result) (rw f at e)
