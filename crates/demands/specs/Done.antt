@@ -10,7 +10,7 @@ use Rattle.table.specs.declared.steps.Step.the-variants.{Add, Draw, Send, Deliv
 use Rattle.table.specs.declared.table.Table.{Table}
 use Rattle.table.specs.Fresh.{freshOf}
 use Rattle.table.specs.Steps.{stepOf}
-use Rattle.table.specs.Way.{onTheWay, atStations, asked as askedOf}
+use Rattle.table.specs.Way.{wayAsked, stationsAsked}
 use Rattle.demands.specs.Wrong.{stocked, gave, asked, pays}
 
 -- two stations with nothing, and the same with a message of station 0 at place 0
@@ -49,7 +49,7 @@ doneAnswers =
     ∷ stepOf waiting (Deliver 0) .answer
     ∷ stepOf waiting (Lose 0) .answer
     -- on_the_way
-    ∷ askedOf empty (onTheWay empty) .answer
+    ∷ wayAsked empty .answer
     -- at_stations
-    ∷ askedOf empty (atStations empty) .answer
+    ∷ stationsAsked empty .answer
     ∷ []
