@@ -43,6 +43,7 @@ use Rattle.table.specs.Sound.{tableSound}
 use Rattle.table.specs.Fresh.{freshRefusals, seatsTo, freshOf as freshTableOf}
 use Rattle.table.specs.Lent.{told, left, sendInAnswer, loseInAnswer}
 use Rattle.table.specs.Running.{ranOf, toldOf as toldByRun}
+use Rattle.table.specs.Table.{waitingAt}
 use Rattle.table.specs.Steps.{answeredStep, delivered, stepRefusals, stepDone, stepOf}
 use Rattle.table.specs.Way.{sumRefusals, summed, onTheWay, atStations}
 use Rattle.script.proofs.Refused.{answer-refused, fill-refused, start-refused}
@@ -115,7 +116,7 @@ does : (t : Table) (step : Step) → stepDone t step .answer ≡ done
 does t (Add k amount) = refl
 does t (Draw k amount) = refl
 does t (Send from to) = refl
-does t (Deliver p) = delivers t _
+does t (Deliver p) = delivers t (waitingAt t p)
 does t (Lose p) = refl
 
 steps : (t : Table) (step : Step) → RefusedAsTable t (stepOf t step)

@@ -17,3 +17,4 @@ pub mod WorkedScript
 pub mod Done
 pub mod Lent
 pub mod BoundCases
+pub mod Orders
