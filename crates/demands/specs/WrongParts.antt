@@ -39,14 +39,14 @@ wrongParts =
     ∷ record { promised = truth (tableSound (freshOf 2 .table)); wrong = 0 ∷ [] }
     -- run: does a step that there is no room to tell; does a step of which a number is missing
     ∷ record { promised = ran sent adds (sevens 9); wrong = (0 ∷ 2 ∷ 21 ∷ 0 ∷ 15 ∷ 0 ∷ 0 ∷ 0 ∷ []) ++ sevens 4 }
-    ∷ record { promised = ran sent (0 ∷ 0 ∷ 5 ∷ 3 ∷ 0 ∷ []) (sevens 10); wrong = 0 ∷ 2 ∷ 15 ∷ 0 ∷ 15 ∷ 0 ∷ 0 ∷ 0 ∷ 0 ∷ 0 ∷ 4 ∷ 7 ∷ 0 ∷ [] }
+    ∷ record { promised = ran sent (0 ∷ 0 ∷ 5 ∷ 3 ∷ 0 ∷ []) (sevens 10); wrong = 0 ∷ 2 ∷ 15 ∷ 0 ∷ 15 ∷ 0 ∷ 0 ∷ 0 ∷ 0 ∷ 0 ∷ 4 ∷ 5 ∷ 0 ∷ [] }
     -- run: of a table that is not sound it changes something; tells something; does nothing and answers 0
     ∷ record { promised = ran unsound adds (sevens 10); wrong = (1 ∷ 0 ∷ 5 ∷ []) ++ sevens 10 }
     ∷ record { promised = ran unsound adds (sevens 10); wrong = (1 ∷ 0 ∷ 0 ∷ 1 ∷ 0 ∷ 0 ∷ 0 ∷ 0 ∷ []) ++ sevens 5 }
     ∷ record { promised = ran unsound adds (sevens 10); wrong = (0 ∷ 0 ∷ 0 ∷ []) ++ sevens 10 }
     -- run: a number that names no step is done as an add; ends the run
     ∷ record { promised = ran sent (5 ∷ 0 ∷ 5 ∷ []) (sevens 5); wrong = 0 ∷ 1 ∷ 15 ∷ 0 ∷ 15 ∷ 0 ∷ 0 ∷ 0 ∷ [] }
-    ∷ record { promised = ran sent (5 ∷ 0 ∷ 5 ∷ adds) (sevens 15); wrong = (12 ∷ 0 ∷ 10 ∷ []) ++ sevens 15 }
+    ∷ record { promised = ran sent (5 ∷ 0 ∷ 5 ∷ adds) (sevens 15); wrong = (0 ∷ 1 ∷ 10 ∷ 12 ∷ 0 ∷ 0 ∷ 0 ∷ 0 ∷ []) ++ sevens 10 }
     -- numbers_for: names a delivery as a loss; names what is no step as an add
     ∷ record { promised = numbersFor (OneStep (Deliver 3)); wrong = 4 ∷ 3 ∷ 0 ∷ [] }
     ∷ record { promised = numbersFor NoStep; wrong = 0 ∷ 0 ∷ 0 ∷ [] }

@@ -35,7 +35,7 @@ wrongRules =
     -- take: leaves the slot that it fills; fills past the limit
     record { promised = takenNumbers (takenOf (waits 2) pays); wrong = 0 ∷ 5 ∷ 7 ∷ 0 ∷ 0 ∷ 5 ∷ [] }
     ∷ record { promised = takenNumbers (takenOf (waits 16000000000) pays); wrong = 0 ∷ 5 ∷ 16000000005 ∷ [] }
-    -- add_to: tells the amount; takes more than was ever to be added
+    -- add_to: tells the amount; adds past the limit of the intake
     ∷ record { promised = stockNumbers (addedTo 3 3 4); wrong = 0 ∷ 4 ∷ 7 ∷ 7 ∷ [] }
     ∷ record { promised = stockNumbers (addedTo 0 mostIntake 1); wrong = 0 ∷ 1 ∷ 1 ∷ 1000000001 ∷ [] }
     -- draw_from: tells an invented amount; lowers the intake

@@ -65,7 +65,7 @@ wrongTables =
     ∷ record { promised = seen (stepOf sent (Lose 0)); wrong = 0 ∷ 0 ∷ 0 ∷ 1 ∷ 0 ∷ [] }
     ∷ record { promised = seen (stepOf sent (Deliver 1)); wrong = 0 ∷ 0 ∷ 0 ∷ 1 ∷ 0 ∷ [] }
     -- step: an add to the neighbour; a place past the pool that is empty and not missing
-    ∷ record { promised = values (stepOf sent (Add 1 5)); wrong = 0 ∷ 5 ∷ 15 ∷ 0 ∷ [] }
+    ∷ record { promised = values (stepOf sent (Add 1 5)); wrong = 0 ∷ 15 ∷ 15 ∷ 0 ∷ [] }
     ∷ record { promised = seen (stepOf sent (Deliver 64)); wrong = 8 ∷ 0 ∷ 0 ∷ 1 ∷ 0 ∷ [] }
     -- on_the_way: counts a stored token that no slot waits for; answers an unsound table
     ∷ record { promised = let r = wayAsked stored in r .answer ∷ r .result ∷ []; wrong = 0 ∷ 5 ∷ [] }
