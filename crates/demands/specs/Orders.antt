@@ -1,7 +1,6 @@
 -- The orders in which document 01 prints the refusals of each step and entry point, beside the numbers of the lists that the answers are computed from; and
 -- what each can then answer.
 use Prim.Native.Nat.{ℕ}
-use mathlib.Core.Path.{_≡_}
 use mathlib.Core.List.{List, [], _∷_, List·Memᴰ}
 use Rattle.rules.specs.declared.message.Message.{Message}
 use Rattle.rules.specs.declared.side.Side.{Side}
@@ -15,13 +14,22 @@ use Rattle.record.specs.declared.writing.Written.{Written}
 use Rattle.record.specs.Reading.{readRefusals, readOf}
 use Rattle.record.specs.Writing.{writeRefusals, WritesGiven}
 use Rattle.record.specs.AtStation.{writeForRefusals, WritesFor, receiveBytesRefusals, receiveBytesOf}
+use Rattle.quynhabet.specs.declared.told.Told.{Told}
+use Rattle.quynhabet.specs.Exports.{Makes, Adds, Draws, Shows, Receives, Reads, WritesNumbers}
 use Rattle.table.specs.declared.pool.Place.{Place}
+use Rattle.table.specs.declared.running.Ran.{Ran}
 use Rattle.table.specs.declared.steps.Step.the-variants.{Add, Draw, Send, Deliver, Lose}
 use Rattle.table.specs.declared.table.Table.{Table}
 use Rattle.table.specs.Fresh.{freshRefusals as freshTableRefusals, freshOf as freshTableOf}
 use Rattle.table.specs.Lent.{sendInRefusals, sendInTold, loseInRefusals, loseInTold}
+use Rattle.table.specs.Running.{Runs}
 use Rattle.table.specs.Steps.{stepRefusals, stepOf}
 use Rattle.table.specs.Way.{sumRefusals, wayAsked, stationsAsked}
+use Rattle.script.specs.declared.filling.Filled.{Filled}
+use Rattle.script.specs.declared.starting.Put.{Put}
+use Rattle.script.specs.declared.starting.Run.{Run}
+use Rattle.script.specs.Filling.{Fills}
+use Rattle.script.specs.Starting.{PutsAnswer, startedOf}
 
 -- the numbers of a list of refusals in their order, and the order that is printed
 pub record Order : Type 0 where
@@ -76,6 +84,7 @@ pub record Answers : Type 0 where
   pub send-step : (t : Table) (from to : ℕ) → OneOf (stepOf t (Send from to) .answer) (1 ∷ 2 ∷ 3 ∷ 6 ∷ [])
   pub deliver-step : (t : Table) (p : ℕ) → OneOf (stepOf t (Deliver p) .answer) (1 ∷ 7 ∷ 8 ∷ 10 ∷ [])
   pub lose-step : (t : Table) (p : ℕ) → OneOf (stepOf t (Lose p) .answer) (1 ∷ 7 ∷ 8 ∷ [])
+  pub run : (t : Table) (codes told : List ℕ) (r : Ran) (told′ : List ℕ) → Runs t codes told r told′ → OneOf (r .answer) (1 ∷ [])
   pub fresh-table : (count : ℕ) → OneOf (freshTableOf count .answer) (1 ∷ [])
   pub on-the-way : (t : Table) → OneOf (wayAsked t .answer) (1 ∷ [])
   pub at-stations : (t : Table) → OneOf (stationsAsked t .answer) (1 ∷ [])
@@ -94,3 +103,14 @@ pub record Answers : Type 0 where
   pub take : (x : Side) (m : Message) → OneOf (takenOf x m .answer) (1 ∷ 9 ∷ 10 ∷ [])
   pub add-to : (value intake amount : ℕ) → OneOf (addedTo value intake amount .answer) (1 ∷ 4 ∷ 5 ∷ 10 ∷ [])
   pub draw-from : (value intake amount : ℕ) → OneOf (drawnFrom value intake amount .answer) (1 ∷ 4 ∷ [])
+  pub qb-station-fresh : (number count : ℕ) (station : List ℕ) (r : Told) (station′ : List ℕ) → Makes number count station r station′ → OneOf (r .answer) (1 ∷ 2 ∷ [])
+  pub qb-station-add : (station : List ℕ) (amount : ℕ) (r : Told) (station′ : List ℕ) → Adds station amount r station′ → OneOf (r .answer) (1 ∷ 4 ∷ 5 ∷ 10 ∷ [])
+  pub qb-station-draw : (station : List ℕ) (amount : ℕ) (r : Told) (station′ : List ℕ) → Draws station amount r station′ → OneOf (r .answer) (1 ∷ 4 ∷ [])
+  pub qb-station-write : (station : List ℕ) (to : ℕ) (out : List ℕ) (r : Told) (out′ : List ℕ) → Shows station to out r out′ → OneOf (r .answer) (1 ∷ 2 ∷ 3 ∷ 14 ∷ [])
+  pub qb-station-receive : (station bytes : List ℕ) (r : Told) (station′ : List ℕ)
+      → Receives station bytes r station′ → OneOf (r .answer) (1 ∷ 9 ∷ 2 ∷ 11 ∷ 10 ∷ [])
+  pub qb-record-read : (bytes message : List ℕ) (r : Told) (message′ : List ℕ) → Reads bytes message r message′ → OneOf (r .answer) (9 ∷ [])
+  pub qb-record-write : (message out : List ℕ) (r : Told) (out′ : List ℕ) → WritesNumbers message out r out′ → OneOf (r .answer) (9 ∷ 14 ∷ [])
+  pub start : (script : List ℕ) → OneOf (startedOf script .answer) (13 ∷ 12 ∷ 1 ∷ [])
+  pub put-answer : (answer : ℕ) (out : List ℕ) (r : Put) (out′ : List ℕ) → PutsAnswer answer out r out′ → OneOf (r .answer) (14 ∷ [])
+  pub fill : (script : List ℕ) (run : Run) (out : List ℕ) (r : Filled) (out′ : List ℕ) → Fills script run out r out′ → OneOf (r .answer) (1 ∷ 14 ∷ [])
