@@ -57,10 +57,11 @@ pub fn add_to(value: u64, intake: u64, amount: u64) -> Stock
             intake,
         };
     }
+    let more = value + amount;
     Stock {
         answer,
-        result: value + amount,
-        value: value + amount,
+        result: more,
+        value: more,
         intake: intake + amount,
     }
 }

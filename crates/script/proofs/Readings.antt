@@ -7,17 +7,16 @@ use mathlib.Core.Logic.{_⊎_, inl, inr, ⊎-elim}
 use native.Mathlib.Omega.{arith}
 use borrow.Author.Tests.{lt-ltb, le-ltb, ltb-true, ltb-false}
 use lib.Dec.{ltb}
-use lib.ListN.{length, drop, set, length-append, length-drop}
+use lib.ListN.{length, getD, drop, set, length-append, length-drop}
 use lib.Seq.{sets, length-sets}
 use Rattle.rules.proofs.Stores.{then}
 use Rattle.table.specs.declared.steps.Asked.{Asked}
 use Rattle.table.specs.declared.steps.Asked.the-variants.{NoStep, OneStep}
 use Rattle.table.specs.declared.steps.Step.the-variants.{Add, Draw, Send, Deliver, Lose}
 use Rattle.table.specs.Running.{askedIn, numbersFor}
-use Rattle.script.specs.declared.reading.Code.{Code}
 use Rattle.script.specs.Words.{indexOf}
 use Rattle.script.specs.Lines.{lineOf}
-use Rattle.script.specs.Reading.{codeNumbers, lineAt, linesFrom, numbersOf, pastLine, pastLines, readOf}
+use Rattle.script.specs.Reading.{lineAt, linesFrom, numbersOf, pastLine, pastLines, readOf}
 
 pub below-or-not : (k n : ℕ) → (k < n) ⊎ (n ≤ k)
 below-or-not k n = by (ltb k n) refl
@@ -107,14 +106,18 @@ lines-some zero script at m h = absurd (omega arith)
 lines-some (suc most) script at m h = rw (lines-more script at most h) (omega arith)
 
 -- three stores one after the other
-pub three-stores : (l : List ℕ) (at : ℕ) (code : Code) → set (set (set l at (code .kind)) (at + 1) (code .first)) (at + 2) (code .second) ≡ sets l at (codeNumbers code)
-three-stores l at code =
+pub three-stores : (l : List ℕ) (at : ℕ) (xs : List ℕ) → length xs ≡ 3 → set (set (set l at (getD xs 0 0)) (at + 1) (getD xs 1 0)) (at + 2) (getD xs 2 0) ≡ sets l at xs
+three-stores l at [] e = absurd (omega arith)
+three-stores l at (a ∷ []) e = absurd (omega arith)
+three-stores l at (a ∷ b ∷ []) e = absurd (omega arith)
+three-stores l at (a ∷ b ∷ c ∷ []) e =
     let one : at + 1 ≡ suc at = omega arith in
     let two : at + 2 ≡ suc (suc at) = omega arith in
     rw (one, two)
+three-stores l at (a ∷ b ∷ c ∷ d ∷ xs) e = absurd (omega arith)
 
 -- three numbers for each line, which name what it asks for
-length-three : (x : Asked) → length (numbersFor x) ≡ 3
+pub length-three : (x : Asked) → length (numbersFor x) ≡ 3
 length-three NoStep = refl
 length-three (OneStep (Add k amount)) = refl
 length-three (OneStep (Draw k amount)) = refl

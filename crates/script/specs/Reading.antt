@@ -6,7 +6,6 @@ use lib.Dec.{ltb}
 use lib.ListN.{length, drop}
 use Rattle.table.specs.declared.steps.Asked.{Asked}
 use Rattle.table.specs.Running.{numbersFor}
-use Rattle.script.specs.declared.reading.Code.{Code}
 use Rattle.script.specs.declared.reading.Read.{Read}
 use Rattle.script.specs.Words.{indexOf, upTo}
 use Rattle.script.specs.Lines.{lineOf}
@@ -32,9 +31,6 @@ abbrev pub readOf : ℕ → List ℕ → ℕ → Read
 readOf most script at = record { lines = length (linesFrom most script at); at = pastLines most script at }
 
 -- the numbers of what is asked for, three for each
-abbrev pub codeNumbers : Code → List ℕ
-codeNumbers code = code .kind ∷ code .first ∷ code .second ∷ []
-
 unfoldable pub numbersOf : List Asked → List ℕ
 numbersOf [] = []
 numbersOf (x ∷ xs) = numbersFor x ++ numbersOf xs

@@ -4,11 +4,11 @@ ghost use Prim.Native.Nat.{_+_, _*_, _≤_};
 ghost use lib.ListN.{length, drop};
 ghost use lib.Seq.{sets};
 ghost use Rattle.table.specs.Running.{numbersFor};
-ghost use Rattle.script.specs.Reading.{codeNumbers, lineAt, linesFrom, numbersOf, pastLine, readOf};
+ghost use Rattle.script.specs.Reading.{lineAt, linesFrom, numbersOf, pastLine, readOf};
 use crate::lines::line_of;
 use crate::words::index_of;
 use table::steps::Asked;
-use table::steps::Step;
+use table::steps::numbers_for;
 
 // What is left of a script from a position on.
 fn left_from(script: &[u8], at: usize) -> &[u8]
@@ -41,62 +41,15 @@ pub(crate) fn past_line(script: &[u8], at: usize) -> usize
     script.len()
 }
 
-// The three numbers that name what is asked for.
-struct Code {
-    kind: u64,
-    first: u64,
-    second: u64,
-}
-
-// The numbers of a step, or of none.
-fn code_of(asked: Asked) -> Code
-    ensures { λ r. ⌜ codeNumbers r ≡ numbersFor asked ⌝ }
-{
-    let Asked::OneStep(step) = asked else {
-        return Code {
-            kind: 5,
-            first: 0,
-            second: 0,
-        };
-    };
-    match step {
-        Step::Add(k, amount) => Code {
-            kind: 0,
-            first: k,
-            second: amount,
-        },
-        Step::Draw(k, amount) => Code {
-            kind: 1,
-            first: k,
-            second: amount,
-        },
-        Step::Send(from, to) => Code {
-            kind: 2,
-            first: from,
-            second: to,
-        },
-        Step::Deliver(place) => Code {
-            kind: 3,
-            first: place,
-            second: 0,
-        },
-        Step::Lose(place) => Code {
-            kind: 4,
-            first: place,
-            second: 0,
-        },
-    }
-}
-
 // The numbers of what is asked for, put from a place on.
 fn put_asked(codes: &mut [u64], at: usize, asked: Asked)
     requires { ⌜ at + 3 ≤ length (now codes) ⌝ }
     ensures { λ _. ⌜ now (codes .exit) ≡ sets (now (codes .entry)) at (numbersFor asked) ⌝ }
 {
-    let code = code_of(asked);
-    codes[at] = code.kind;
-    codes[at + 1] = code.first;
-    codes[at + 2] = code.second;
+    let numbers = numbers_for(asked);
+    codes[at] = numbers[0];
+    codes[at + 1] = numbers[1];
+    codes[at + 2] = numbers[2];
 }
 
 // How many lines were read, and the position past them.

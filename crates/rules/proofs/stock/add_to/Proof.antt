@@ -20,14 +20,11 @@ returns c =
 room : (c : tie.Else1) → let a = c .before .before .args in Added (a .value) (a .intake) (a .amount)
 room c = let a = c .before .before .args in added (a .value) (a .intake) (a .amount) (sym (c .before .add-to-answer .ensures) ∙ c .if1 .left)
 
-add-t6 : tie.Need-add-t6
-add-t6 c = omega (arith, room c .value)
+add-more : tie.Need-add-more
+add-more c = omega (arith, room c .value)
 
 add-t7 : tie.Need-add-t7
-add-t7 c = omega (arith, room c .value)
-
-add-t8 : tie.Need-add-t8
-add-t8 c = omega (arith, room c .intake)
+add-t7 c = omega (arith, room c .intake)
 
 returns-2 : tie.Need-returns-2
 unfolding addedTo
@@ -36,4 +33,4 @@ returns-2 c =
     rw (c .if1 .left) (stock-done (a .value) (a .intake) (addDone (a .value) (a .intake) (a .amount)) (sym (c .before .add-to-answer .ensures) ∙ c .if1 .left))
 
 pub add-to-spec : {M : Type 1} → statement M
-add-to-spec = tie.close (tie.spec add-to-answer-requires returns add-t6 add-t7 add-t8 returns-2)
+add-to-spec = tie.close (tie.spec add-to-answer-requires returns add-more add-t7 returns-2)
