@@ -4,7 +4,8 @@ use lib.ListN.{length, replicate}
 use Rattle.handshake.specs.Sums.{sumBelow}
 use Rattle.rules.specs.Below.{allBelow}
 use Rattle.station.specs.Sound.{stationSound, messageSound}
-use Rattle.rules.specs.Taking.{takeOf}
+use Rattle.rules.specs.Stock.{addedTo, drawnFrom}
+use Rattle.rules.specs.Taking.{takeOf, takenOf}
 use Rattle.station.specs.Steps.{freshOf as freshStation, addOf, drawOf, showOf, receiveOf}
 use Rattle.record.specs.Numbers.{big, numberAt}
 use Rattle.record.specs.Layout.{bytesOf}
@@ -13,9 +14,14 @@ use Rattle.record.specs.AtStation.{receiveBytesOf}
 use Rattle.table.specs.Table.{firstFrom}
 use Rattle.table.specs.Sound.{tableSound}
 use Rattle.table.specs.Fresh.{seatsTo, freshOf}
+use Rattle.table.specs.Running.{askedIn, leftBy, ranOf}
 use Rattle.table.specs.Steps.{stepOf}
+use Rattle.script.specs.Words.{numeralOf}
+use Rattle.script.specs.Lines.{stationsOf}
+use Rattle.script.specs.Starting.{startedOf}
+use Rattle.script.specs.Filling.{turnOf}
 use Rattle.demands.specs.Done.{doneAnswers}
 
 pub all-done : doneAnswers ≡ replicate (length doneAnswers) 0
-unfolding freshStation addOf drawOf showOf receiveOf takeOf stationSound messageSound allBelow bytesOf big numberAt fieldAt isRecord readAt receiveBytesOf firstFrom tableSound seatsTo freshOf stepOf sumBelow
+unfolding takenOf addedTo drawnFrom askedIn leftBy ranOf numeralOf stationsOf startedOf turnOf freshStation addOf drawOf showOf receiveOf takeOf stationSound messageSound allBelow bytesOf big numberAt fieldAt isRecord readAt receiveBytesOf firstFrom tableSound seatsTo freshOf stepOf sumBelow
 all-done = refl

@@ -7,3 +7,4 @@ pub mod PrintedRun
 pub mod NamedCases
 pub mod WorkedScript
 pub mod Done
+pub mod Orders

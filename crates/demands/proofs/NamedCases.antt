@@ -13,16 +13,16 @@ use Rattle.record.specs.AtStation.{receiveBytesOf}
 use Rattle.table.specs.Table.{firstFrom}
 use Rattle.table.specs.Sound.{tableSound}
 use Rattle.table.specs.Fresh.{seatsTo, freshOf}
-use Rattle.table.specs.Steps.{planOf, stepOf}
+use Rattle.table.specs.Steps.{stepOf}
 use Rattle.runs.specs.Runs.{logOf}
 use Rattle.demands.specs.Cases.{Case}
 use Rattle.demands.specs.BoundCases.{boundCases}
 use Rattle.demands.specs.NamedCases.{namedCases}
 
 pub named-cases-hold : map (λ (c : Case). c .gives) namedCases ≡ map (λ (c : Case). c .wanted) namedCases
-unfolding showOf receiveOf takeOf stationSound messageSound allBelow bytesOf big numberAt fieldAt isRecord readAt receiveBytesOf firstFrom tableSound seatsTo freshOf planOf stepOf logOf
+unfolding showOf receiveOf takeOf stationSound messageSound allBelow bytesOf big numberAt fieldAt isRecord readAt receiveBytesOf firstFrom tableSound seatsTo freshOf stepOf logOf
 named-cases-hold = refl
 
 pub bound-cases-hold : map (λ (c : Case). c .gives) boundCases ≡ map (λ (c : Case). c .wanted) boundCases
-unfolding addOf drawOf receiveOf takeOf stationSound messageSound allBelow tableSound seatsTo freshOf planOf stepOf sumBelow
+unfolding addOf drawOf receiveOf takeOf stationSound messageSound allBelow tableSound seatsTo freshOf stepOf sumBelow
 bound-cases-hold = refl

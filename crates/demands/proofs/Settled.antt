@@ -3,9 +3,17 @@
 use Prim.Native.Nat.{ℕ}
 use mathlib.Core.Path.{_≡_, refl, sym, _∙_}
 use mathlib.Core.List.{List}
+use lib.ListN.{length}
+use lib.Seq.{sets}
 use denote.Triple.Clauses.{Ended}
 use Rattle.record.specs.Writing.{Writes, written, left}
 use Rattle.quynhabet.specs.Exports.{Given, Gives}
+use Rattle.table.specs.declared.table.Table.{Table}
+use Rattle.table.specs.Running.{ranOf, toldOf, Runs}
+use Rattle.measure.specs.Steps.{RunsFresh}
+use Rattle.script.specs.declared.starting.Run.{Run}
+use Rattle.script.specs.Filling.{filledBy, Fills, turnOf}
+use Rattle.script.specs.Starting.{answerPut, PutsAnswer, putOf}
 use Rattle.demands.specs.Contracts.{Arguments, Contract, Lifetimes, Promises, Result, Settles}
 use Rattle.demands.specs.Settled.{Settled}
 
@@ -31,9 +39,34 @@ writing answer bytes before x y p q =
 giving : (g : Given) (x y : _ × List ℕ) → Gives g (x .0) (x .1) → Gives g (y .0) (y .1) → x ≡ y
 giving g x y p q = pair x y (same (g .told) _ _ (p .told) (q .told)) (same (g .lent) _ _ (p .lent) (q .lent))
 
+running : (t : Table) (codes told : List ℕ) (x y : _ × List ℕ) → Runs t codes told (x .0) (x .1) → Runs t codes told (y .0) (y .1) → x ≡ y
+running t codes told x y p q = pair x y (same (ranOf t codes told) _ _ (p .ran) (q .ran)) (same (toldOf t codes told) _ _ (p .lent) (q .lent))
+
+running-fresh : (count : ℕ) (codes told : List ℕ) (x y : ℕ × List ℕ) → RunsFresh count codes told (x .0) (x .1) → RunsFresh count codes told (y .0) (y .1) → x ≡ y
+running-fresh count codes told x y p q = pair x y (p .ran ∙ sym (q .ran)) (p .lent ∙ sym (q .lent))
+
+putting : (answer : ℕ) (out : List ℕ) (x y : _ × List ℕ) → PutsAnswer answer out (x .0) (x .1) → PutsAnswer answer out (y .0) (y .1) → x ≡ y
+putting answer out x y p q = pair x y (same (putOf answer out) _ _ (p .put) (q .put)) (same (sets out 0 (answerPut answer out)) _ _ (p .lent) (q .lent))
+
+filling : (script : List ℕ) (run : Run) (out : List ℕ) (x y : _ × List ℕ) → Fills script run out (x .0) (x .1) → Fills script run out (y .0) (y .1) → x ≡ y
+filling script run out x y p q =
+    let turn = turnOf script run (length out) in
+    pair x y (same (filledBy turn) _ _ (p .filled) (q .filled)) (same (sets out 0 (turn .bytes)) _ _ (p .lent) (q .lent))
+
 pub settled : Settled
 settled =
     record {
+      rules·take = λ x m. given refl;
+      rules·add-to = λ value intake amount. given refl;
+      rules·draw-from = λ value intake amount. given refl;
+      rules·clocks-agree = λ t l. given refl;
+      rules·SourceClock·in-range = λ self. given refl;
+      rules·SourceClock·is-above = λ self other. given refl;
+      rules·DestinationClock·in-range = λ self. given refl;
+      rules·DestinationClock·is-above = λ self other. given refl;
+      rules·no-message = given refl;
+      rules·no-report = given refl;
+      rules·rules-of = λ report. given refl;
       station·fresh = λ number count. given refl;
       station·add = λ s amount. given refl;
       station·draw = λ s amount. given refl;
@@ -42,11 +75,7 @@ settled =
       station·count-is-sound = λ count. given refl;
       station·station-is-sound = λ s. given refl;
       station·message-is-sound = λ m. given refl;
-      station·clocks-agree = λ t l. given refl;
       station·blank-station = λ number count. given refl;
-      station·no-message = given refl;
-      station·no-report = given refl;
-      station·rules-of = λ report. given refl;
       record·read = λ bytes. given refl;
       record·write = λ m buffer. record { promised = refl; settled = λ κ. writing _ _ _ };
       record·write-message = λ s to buffer. record { promised = refl; settled = λ κ. writing _ _ _ };
@@ -60,20 +89,18 @@ settled =
       quynhabet·qb-record-write = λ message out. record { promised = refl; settled = λ κ. giving _ };
       table·fresh-table = λ count. given refl;
       table·table-is-sound = λ t. given refl;
-      table·plan-for = λ t step. given refl;
-      table·plan-at = λ refusal count step s waiting free. given refl;
       table·step = λ t step. given refl;
+      table·run = λ t codes told. record { promised = refl; settled = λ κ. running _ _ _ };
+      table·numbers-for = λ asked. given refl;
       table·on-the-way = λ t. given refl;
       table·at-stations = λ t. given refl;
+      measure·qm-run = λ count codes told. record { promised = refl; settled = λ κ. running-fresh _ _ _ };
       measure·qm-last-result = λ count codes. given refl;
-      table·place-looked-at = λ step. given refl;
-      table·station-looked-at = λ step waiting. given refl;
-      table·needs-place = λ step. given refl;
-      table·lowest-empty = λ pool. given refl;
       table·send-in = λ pool m. record { promised = refl; settled = λ κ. both _ _ };
       table·lose-in = λ pool p. record { promised = refl; settled = λ κ. both _ _ };
       table·send-value = λ pool m. given refl;
       table·lose-value = λ pool p. given refl;
-      script·open = λ script. given refl;
-      script·advance = λ script t at. given refl;
+      script·start = λ script. given refl;
+      script·put-answer = λ answer out. record { promised = refl; settled = λ κ. putting _ _ };
+      script·fill = λ script run out. record { promised = refl; settled = λ κ. filling _ _ _ };
     }

@@ -1,9 +1,8 @@
 -- Bytes, stations and tables share their definitions: receiving a message's record is a delivery of it, and the record that a station writes is the
 -- writing of the message that a send places. Assumes nothing.
 use Prim.Native.Nat.{ℕ, _<_}
-use mathlib.Core.Path.{_≡_, refl, ap, sym, _∙_}
+use mathlib.Core.Path.{_≡_, ap}
 use mathlib.Core.Bool.{true}
-use mathlib.Core.List.{List}
 use lib.ListN.{length}
 use Rattle.station.specs.declared.station.Station.{Station}
 use Rattle.rules.specs.declared.message.Message.{Message}
@@ -11,10 +10,8 @@ use Rattle.rules.specs.Limits.{mostStations}
 use Rattle.station.specs.Sound.{messageSound}
 use Rattle.station.specs.Steps.{showAnswer, messageFor, receiveOf}
 use Rattle.record.specs.Layout.{bytesOf}
-use Rattle.record.specs.Reading.{readOf}
 use Rattle.record.specs.AtStation.{receiveBytesOf}
 use Rattle.record.proofs.ReadBack.{read-back}
-use Rattle.table.specs.declared.pool.Waiting.{Waiting}
 use Rattle.table.specs.declared.pool.Waiting.the-variants.{One}
 use Rattle.table.specs.declared.steps.Step.the-variants.{Send, Deliver}
 use Rattle.table.specs.declared.table.Table.{Table}
@@ -22,7 +19,7 @@ use Rattle.table.specs.Table.{mostPlaces, stationAt, waitingAt, lowestEmpty}
 use Rattle.table.specs.Sound.{tableSound}
 use Rattle.table.specs.Steps.{stepOf}
 use Rattle.table.proofs.Tables.{table-parts, waits}
-use Rattle.table.proofs.Same.{SameAt, SentAt, deliver-same, send-same}
+use Rattle.table.proofs.Same.{SameAt, deliver-same, send-same}
 
 pub record-received : (s : Station) (m : Message) → messageSound m ≡ true → receiveBytesOf s (bytesOf m) ≡ receiveOf s m
 unfolding receiveBytesOf

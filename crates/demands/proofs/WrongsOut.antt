@@ -1,14 +1,15 @@
--- No wrong outcome of a table, of its parts, of a script or of a call from C is what is promised. Assumes nothing.
+-- No wrong outcome of the rules, of a table, of a run of steps, of a script or of a call from C is what is promised. Assumes nothing.
 use lib.Dec.{T}
 use Rattle.rules.specs.Below.{allBelow}
 use Rattle.station.specs.Sound.{stationSound, messageSound}
-use Rattle.rules.specs.Taking.{takeOf}
+use Rattle.rules.specs.Stock.{addedTo, drawnFrom}
+use Rattle.rules.specs.Taking.{takeOf, takenOf}
 use Rattle.station.specs.Steps.{addOf, drawOf, showOf, receiveOf}
 use Rattle.table.specs.Table.{firstFrom}
 use Rattle.table.specs.Sound.{tableSound}
 use Rattle.table.specs.Fresh.{seatsTo, freshOf}
-use Rattle.table.specs.Running.{leftBy}
-use Rattle.table.specs.Steps.{planAt, planOf, stepOf}
+use Rattle.table.specs.Running.{askedIn, toldBy, leftBy, ranOf, toldOf}
+use Rattle.table.specs.Steps.{stepOf}
 use Rattle.measure.specs.Steps.{lastResult}
 use Rattle.station.specs.Steps.{freshOf as freshStation}
 use Rattle.record.specs.Numbers.{big, numberAt}
@@ -27,21 +28,26 @@ use Rattle.script.specs.Reading.{linesFrom, pastLines}
 use Rattle.script.specs.Telling.{saidFor}
 use Rattle.script.specs.Starting.{startedOf}
 use Rattle.script.specs.Filling.{turnOf}
+use Rattle.demands.specs.WrongRules.{wrongRules}
 use Rattle.demands.specs.WrongTables.{wrongTables}
 use Rattle.demands.specs.WrongScripts.{wrongScripts}
 use Rattle.demands.specs.WrongParts.{wrongParts}
 use Rattle.demands.specs.WrongExports.{wrongExports}
 
+pub wrong-rules-ruled-out : T (ruledOut wrongRules)
+unfolding takeOf takenOf addedTo drawnFrom
+wrong-rules-ruled-out = tt
+
 pub wrong-tables-ruled-out : T (ruledOut wrongTables)
-unfolding addOf drawOf showOf receiveOf takeOf stationSound messageSound allBelow firstFrom tableSound seatsTo freshOf planOf stepOf sumBelow
+unfolding addOf drawOf showOf receiveOf takeOf stationSound messageSound allBelow firstFrom tableSound seatsTo freshOf stepOf sumBelow
 wrong-tables-ruled-out = tt
 
 pub wrong-scripts-ruled-out : T (ruledOut wrongScripts)
-unfolding startedOf turnOf linesFrom pastLines saidFor leftBy stationLines digitsBy sumBelow lineOf stationsOf numeralOf addOf drawOf showOf receiveOf takeOf stationSound messageSound allBelow firstFrom tableSound seatsTo freshOf planOf stepOf
+unfolding startedOf turnOf linesFrom pastLines saidFor leftBy stationLines digitsBy sumBelow lineOf stationsOf numeralOf addOf drawOf showOf receiveOf takeOf stationSound messageSound allBelow firstFrom tableSound seatsTo freshOf stepOf
 wrong-scripts-ruled-out = tt
 
 pub wrong-parts-ruled-out : T (ruledOut wrongParts)
-unfolding addOf drawOf showOf receiveOf takeOf stationSound messageSound allBelow firstFrom tableSound seatsTo freshOf planAt planOf stepOf lastResult
+unfolding addOf drawOf showOf receiveOf takeOf stationSound messageSound allBelow firstFrom tableSound seatsTo freshOf stepOf askedIn toldBy leftBy ranOf toldOf lastResult
 wrong-parts-ruled-out = tt
 
 pub wrong-exports-ruled-out : T (ruledOut wrongExports)

@@ -2,17 +2,21 @@
 -- everything lent is as it was; a refused making or reading hands back every number 0 and nothing held. The numbers are the answers that can occur, in their
 -- order. It is stated of the definitions that the promises cite, applied to the parameters by their names: `tools/listed` holds each row against the source.
 -- Not listed: `station::count_is_sound`, `station::station_is_sound`, `station::message_is_sound`, `table::table_is_sound`. They are tests, and refuse nothing.
--- Not listed: `station::clocks_agree`, `table::needs_place`. They are tests too.
--- Not listed: `table::place_looked_at`, `table::station_looked_at`, `table::lowest_empty`. They find an index, and refuse nothing.
--- Not listed: `station::blank_station`, `station::no_message`, `station::no_report`, `station::rules_of`. They make what they are told to, and refuse nothing.
--- Not listed: `measure::qm_last_result`. It has no answer: it is a run of steps for the benchmark.
--- Not listed: `script::fill`. It has no answer: what it prints of a step is the answer and the result of an advance.
-use Prim.Native.Nat.{ℕ, _≤_}
+-- Not listed: `rules::clocks_agree`, `rules::SourceClock::in_range`, `rules::DestinationClock::in_range`. They are tests too.
+-- Not listed: `rules::SourceClock::is_above`, `rules::DestinationClock::is_above`. They compare, and refuse nothing.
+-- Not listed: `station::blank_station`, `rules::no_message`, `rules::no_report`. They make what they are told to, and refuse nothing.
+-- Not listed: `rules::rules_of`, `table::numbers_for`. They tell in numbers what they are given, and refuse nothing.
+-- Not listed: `measure::qm_run`, `measure::qm_last_result`. They have no answer: they are runs of steps for the benchmark.
+use Prim.Native.Nat.{ℕ}
 use mathlib.Core.Path.{_≡_}
-use mathlib.Core.List.{List, _++_}
+use mathlib.Core.Bool.{true}
+use mathlib.Core.List.{List}
 use mathlib.Core.Logic.{_≢_}
-use lib.ListN.{length, replicate, take}
+use lib.ListN.{replicate}
 use Rattle.rules.specs.declared.message.Message.{Message}
+use Rattle.rules.specs.declared.side.Side.{Side}
+use Rattle.rules.specs.declared.stock.Stock.{Stock}
+use Rattle.rules.specs.declared.taking.Taken.{Taken}
 use Rattle.station.specs.declared.message.Shown.{Shown}
 use Rattle.station.specs.declared.outcome.Outcome.{Outcome}
 use Rattle.station.specs.declared.station.Station.{Station}
@@ -20,44 +24,54 @@ use Rattle.rules.specs.Answers.{done}
 use Rattle.rules.specs.Limits.{mostStations}
 use Rattle.rules.specs.Report.{noReport}
 use Rattle.rules.specs.Message.{noMessage}
-use Rattle.station.specs.Steps.{blank, freshOf, addOf, drawOf, showOf, receiveOf, messageFor}
+use Rattle.rules.specs.Stock.{addedTo, drawnFrom}
+use Rattle.rules.specs.Taking.{takenOf}
+use Rattle.station.specs.Steps.{blank, freshOf, addOf, drawOf, showOf, receiveOf}
 use Rattle.record.specs.declared.reading.Reading.{Reading}
 use Rattle.record.specs.declared.writing.Written.{Written}
-use Rattle.record.specs.Layout.{bytesOf}
 use Rattle.record.specs.Reading.{readOf}
-use Rattle.record.specs.Writing.{Writes, writeAnswer}
-use Rattle.record.specs.AtStation.{writeForAnswer, receiveBytesOf}
+use Rattle.record.specs.Writing.{WritesGiven}
+use Rattle.record.specs.AtStation.{WritesFor, receiveBytesOf}
 use Rattle.quynhabet.specs.declared.told.Told.{Told}
-use Rattle.quynhabet.specs.Exports.{Gives, plainTold, freshBy, addBy, drawBy, showBy, receiveBy, readBy, writeBy}
+use Rattle.quynhabet.specs.Exports.{plainTold, Makes, Adds, Draws, Shows, Receives, Reads, WritesNumbers}
 use Rattle.table.specs.declared.lent.Pooled.{Pooled}
 use Rattle.table.specs.declared.lent.Told.{Told as PoolTold}
-use Rattle.table.specs.declared.planning.Change.the-variants.{Nothing}
-use Rattle.table.specs.declared.planning.Plan.{Plan}
+use Rattle.table.specs.declared.running.Ran.{Ran}
 use Rattle.table.specs.declared.steps.Step.{Step}
 use Rattle.table.specs.declared.pool.Place.{Place}
-use Rattle.table.specs.declared.pool.Waiting.{Waiting}
-use Rattle.table.specs.declared.pool.Waiting.the-variants.{Empty}
 use Rattle.table.specs.declared.stepping.Stepped.{Stepped}
 use Rattle.table.specs.declared.table.Table.{Table}
 use Rattle.table.specs.declared.way.Summed.{Summed}
 use Rattle.table.specs.Table.{mostPlaces}
 use Rattle.table.specs.Fresh.{freshOf as freshTableOf}
-use Rattle.table.specs.Lent.{cleared, sendInTold, sendInPool, loseInTold, loseInPool}
-use Rattle.table.specs.Steps.{planAt, planOf, stepOf}
-use Rattle.table.specs.Way.{onTheWay, atStations, asked}
-use Rattle.script.specs.declared.filling.Run.{Run}
-use Rattle.script.specs.declared.running.Advanced.{Advanced}
-use Rattle.script.specs.declared.running.Opened.{Opened}
-use Rattle.script.specs.Decimal.{says}
-use Rattle.script.specs.Filling.{stepRoom, owed, Started}
-use Rattle.script.specs.Running.{openOf, advanceOf}
+use Rattle.table.specs.Lent.{cleared, SendsIn, LosesIn, sentValue, lostValue}
+use Rattle.table.specs.Running.{Runs}
+use Rattle.table.specs.Steps.{stepOf}
+use Rattle.table.specs.Way.{wayAsked, stationsAsked}
+use Rattle.script.specs.declared.filling.Filled.{Filled}
+use Rattle.script.specs.declared.starting.Put.{Put}
+use Rattle.script.specs.declared.starting.Run.{Run}
+use Rattle.script.specs.declared.starting.Started.{Started}
+use Rattle.script.specs.Filling.{Fills}
+use Rattle.script.specs.Starting.{PutsAnswer, startedOf}
 
--- every number 0 and nothing held: no station, and no table
+-- every number 0 and nothing held: no station, no table, and no run of a script
 abbrev pub noStation : Station
 noStation = blank 0 0
 
 abbrev pub noTable : Table
 noTable = record { count = 0; stations = replicate mostStations noStation; pool = replicate mostPlaces cleared }
+
+abbrev pub noRun : Run
+noRun = record { table = noTable; at = 0; number = 0; finished = true }
+
+-- a refusal that hands back a side: result 0, an empty report, and the side is this one
+abbrev pub RefusedSide : Side → Taken → Type 0
+RefusedSide x r = r .answer ≢ done → (r .result ≡ 0) × (r .report ≡ noReport) × (r .side ≡ x)
+
+-- a refusal that hands back a stock: result 0, and value and intake are these
+abbrev pub RefusedStock : ℕ → ℕ → Stock → Type 0
+RefusedStock value intake r = r .answer ≢ done → (r .result ≡ 0) × (r .value ≡ value) × (r .intake ≡ intake)
 
 -- a refusal that hands back a station: result 0, an empty report, and the station is this one
 abbrev pub RefusedAs : Station → Outcome → Type 0
@@ -67,10 +81,9 @@ RefusedAs s r = r .answer ≢ done → (r .result ≡ 0) × (r .report ≡ noRep
 abbrev pub RefusedAsTable : Table → Stepped → Type 0
 RefusedAsTable t r = r .answer ≢ done → (r .result ≡ 0) × (r .report ≡ noReport) × (r .table ≡ t)
 
--- a refused plan: result 0, an empty report, and no change: every number 0 and nothing held
-abbrev pub RefusedPlan : Plan → Type 0
-RefusedPlan p =
-    p .answer ≢ done → (p .result ≡ 0) × (p .report ≡ noReport) × (p .change ≡ Nothing) × (p .at ≡ 0) × (p .station ≡ noStation) × (p .waiting ≡ Empty)
+-- a refused run of steps: result 0, the table is this one, and what was lent to be told into is as it was
+abbrev pub RefusedRan : Table → List ℕ → Ran → List ℕ → Type 0
+RefusedRan t before r after = r .answer ≢ done → (r .result ≡ 0) × (r .table ≡ t) × (after ≡ before)
 
 -- a refused sum is 0
 abbrev pub RefusedSum : Summed → Type 0
@@ -101,14 +114,24 @@ RefusedPooled before r = RefusedPool before (r .told) (r .pool)
 abbrev pub RefusedNumbers : List ℕ → Told → List ℕ → Type 0
 RefusedNumbers before r after = r .answer ≢ done → (r ≡ plainTold (r .answer) 0) × (after ≡ before)
 
--- a refused script opens no table, and its position is 0
-abbrev pub RefusedOpening : Opened → Type 0
-RefusedOpening r = r .answer ≢ done → (r .table ≡ noTable) × (r .at ≡ 0)
+-- a refused script hands back no run
+abbrev pub RefusedStart : Started → Type 0
+RefusedStart r = Refused (r .answer) (r .result) noRun (r .run)
 
-abbrev pub RefusedAdvance : Table → Advanced → Type 0
-RefusedAdvance t r = Refused (r .answer) (r .result) t (r .table)
+abbrev pub RefusedPut : List ℕ → Put → List ℕ → Type 0
+RefusedPut before r after = Refused (r .answer) (r .result) before after
+
+-- a refused filling: result 0, the run is this one, and so is the buffer
+abbrev pub RefusedFill : Run → List ℕ → Filled → List ℕ → Type 0
+RefusedFill run before r after = r .answer ≢ done → (r .result ≡ 0) × (r .run ≡ run) × (after ≡ before)
 
 pub record Demand1 : Type 0 where
+  -- 1, 9, 10: the side is as it was
+  pub rules·take : (x : Side) (m : Message) → RefusedSide x (takenOf x m)
+  -- 1, 4, 5, 10: value and intake are as they were
+  pub rules·add-to : (value intake amount : ℕ) → RefusedStock value intake (addedTo value intake amount)
+  -- 1, 4: value and intake are as they were
+  pub rules·draw-from : (value intake amount : ℕ) → RefusedStock value intake (drawnFrom value intake amount)
   -- 1, 2: a refused making is no station
   pub station·fresh : (number count : ℕ) → RefusedAs noStation (freshOf number count)
   -- 1, 4, 5, 10: the station is as it was
@@ -123,59 +146,55 @@ pub record Demand1 : Type 0 where
   pub record·read : (bytes : List ℕ) → RefusedReading (readOf bytes)
   -- 9, 14: every byte of the buffer is as it was
   pub record·write : (m : Message) (buffer : List ℕ) (r : Written) (buffer′ : List ℕ)
-      → Writes (writeAnswer m (length buffer)) (bytesOf m) buffer r buffer′ → RefusedBytes buffer r buffer′
+      → WritesGiven m buffer r buffer′ → RefusedBytes buffer r buffer′
   -- 1, 2, 3, 14: every byte of the buffer is as it was
   pub record·write-message : (s : Station) (to : ℕ) (buffer : List ℕ) (r : Written) (buffer′ : List ℕ)
-      → Writes (writeForAnswer s to (length buffer)) (bytesOf (messageFor s to)) buffer r buffer′ → RefusedBytes buffer r buffer′
+      → WritesFor s to buffer r buffer′ → RefusedBytes buffer r buffer′
   -- 1, 9, 2, 11, 10: the station is as it was
   pub record·receive-bytes : (s : Station) (bytes : List ℕ) → RefusedAs s (receiveBytesOf s bytes)
   -- 1, 2: the station's numbers are as they were
   pub quynhabet·qb-station-fresh : (number count : ℕ) (station : List ℕ) (r : Told) (station′ : List ℕ)
-      → Gives (freshBy number count station) r station′ → RefusedNumbers station r station′
+      → Makes number count station r station′ → RefusedNumbers station r station′
   -- 1, 4, 5, 10: the station's numbers are as they were
   pub quynhabet·qb-station-add : (station : List ℕ) (amount : ℕ) (r : Told) (station′ : List ℕ)
-      → Gives (addBy amount station) r station′ → RefusedNumbers station r station′
+      → Adds station amount r station′ → RefusedNumbers station r station′
   -- 1, 4: the station's numbers are as they were
   pub quynhabet·qb-station-draw : (station : List ℕ) (amount : ℕ) (r : Told) (station′ : List ℕ)
-      → Gives (drawBy amount station) r station′ → RefusedNumbers station r station′
+      → Draws station amount r station′ → RefusedNumbers station r station′
   -- 1, 2, 3, 14: every byte of the buffer is as it was
   pub quynhabet·qb-station-write : (station : List ℕ) (to : ℕ) (out : List ℕ) (r : Told) (out′ : List ℕ)
-      → Gives (showBy station to out) r out′ → RefusedNumbers out r out′
+      → Shows station to out r out′ → RefusedNumbers out r out′
   -- 1, 9, 2, 11, 10: the station's numbers are as they were
   pub quynhabet·qb-station-receive : (station bytes : List ℕ) (r : Told) (station′ : List ℕ)
-      → Gives (receiveBy bytes station) r station′ → RefusedNumbers station r station′
+      → Receives station bytes r station′ → RefusedNumbers station r station′
   -- 9: the message's numbers are as they were
   pub quynhabet·qb-record-read : (bytes message : List ℕ) (r : Told) (message′ : List ℕ)
-      → Gives (readBy bytes message) r message′ → RefusedNumbers message r message′
+      → Reads bytes message r message′ → RefusedNumbers message r message′
   -- 9, 14: every byte of the buffer is as it was
-  pub quynhabet·qb-record-write : (message out : List ℕ) (r : Told) (out′ : List ℕ) → Gives (writeBy message out) r out′ → RefusedNumbers out r out′
+  pub quynhabet·qb-record-write : (message out : List ℕ) (r : Told) (out′ : List ℕ) → WritesNumbers message out r out′ → RefusedNumbers out r out′
   -- 1: a refused making is no table
   pub table·fresh-table : (count : ℕ) → RefusedAsTable noTable (freshTableOf count)
-  -- 1, then those of an add, a draw, a send, a delivery or a loss: nothing is planned
-  pub table·plan-for : (t : Table) (step : Step) → RefusedPlan (planOf t step)
-  -- the refusal that comes before, then the same: nothing is planned
-  pub table·plan-at : (refusal count : ℕ) (step : Step) (s : Station) (waiting : Waiting) (free : ℕ)
-      → RefusedPlan (planAt refusal count step s waiting free)
-  -- those of a plan: the table is as it was
+  -- 1, then those of an add, a draw, a send, a delivery or a loss: the table is as it was
   pub table·step : (t : Table) (step : Step) → RefusedAsTable t (stepOf t step)
+  -- 1: the table is as it was, and nothing is told
+  pub table·run : (t : Table) (codes told : List ℕ) (r : Ran) (told′ : List ℕ) → Runs t codes told r told′ → RefusedRan t told r told′
   -- 1: the sum is 0
-  pub table·on-the-way : (t : Table) → RefusedSum (asked t (onTheWay t))
+  pub table·on-the-way : (t : Table) → RefusedSum (wayAsked t)
   -- 1: the sum is 0
-  pub table·at-stations : (t : Table) → RefusedSum (asked t (atStations t))
+  pub table·at-stations : (t : Table) → RefusedSum (stationsAsked t)
   -- 1, 6: every place of the pool is as it was
   pub table·send-in : (pool : List Place) (m : Message) (r : PoolTold) (pool′ : List Place)
-      → (r ≡ sendInTold pool) × (pool′ ≡ sendInPool pool m) → RefusedPool pool r pool′
+      → SendsIn pool m r pool′ → RefusedPool pool r pool′
   -- 1, 7, 8: every place of the pool is as it was
   pub table·lose-in : (pool : List Place) (p : ℕ) (r : PoolTold) (pool′ : List Place)
-      → (r ≡ loseInTold pool p) × (pool′ ≡ loseInPool pool p) → RefusedPool pool r pool′
+      → LosesIn pool p r pool′ → RefusedPool pool r pool′
   -- 6: the pool by value, as it was
-  pub table·send-value : (pool : List Place) (m : Message) → RefusedPooled pool (record { told = sendInTold pool; pool = sendInPool pool m })
+  pub table·send-value : (pool : List Place) (m : Message) → RefusedPooled pool (sentValue pool m)
   -- 7, 8: the pool by value, as it was
-  pub table·lose-value : (pool : List Place) (p : ℕ) → RefusedPooled pool (record { told = loseInTold pool p; pool = loseInPool pool p })
-  -- 13, 12, 1: a refused script opens no table, and its position is 0
-  pub script·open : (script : List ℕ) → RefusedOpening (openOf script)
-  -- 12, or those of the step: the table is as it was. The position is past the line all the same
-  pub script·advance : (script : List ℕ) (t : Table) (at : ℕ) → RefusedAdvance t (advanceOf script t at)
-  -- it has no answer of its own: all that a refused script prints, now or later, is one line with the answer of its opening and result 0
-  pub script·start : (script : List ℕ) (run : Run) (bytes : List ℕ) → Started script run bytes → stepRoom ≤ length bytes → let answer = openOf script .answer in
-      answer ≢ done → take (run .size) bytes ++ owed script run ≡ says 0 answer 0
+  pub table·lose-value : (pool : List Place) (p : ℕ) → RefusedPooled pool (lostValue pool p)
+  -- 13, 12, 1: a refused script hands back a run that is finished, with no table and every number 0
+  pub script·start : (script : List ℕ) → RefusedStart (startedOf script)
+  -- 14: the buffer is as it was
+  pub script·put-answer : (answer : ℕ) (out : List ℕ) (r : Put) (out′ : List ℕ) → PutsAnswer answer out r out′ → RefusedPut out r out′
+  -- 1, 14: the run is handed back as it was, and so is the buffer
+  pub script·fill : (script : List ℕ) (run : Run) (out : List ℕ) (r : Filled) (out′ : List ℕ) → Fills script run out r out′ → RefusedFill run out r out′

@@ -1,6 +1,11 @@
 -- For each entry point and each step an input for which its answer is 0: no build that refuses everything keeps its promise.
 use Prim.Native.Nat.{ℕ}
 use mathlib.Core.List.{List, [], _∷_}
+use lib.ListN.{replicate}
+use Rattle.rules.specs.declared.side.Side.{Side}
+use Rattle.rules.specs.Stock.{addedTo, drawnFrom}
+use Rattle.rules.specs.Taking.{takenOf}
+use Rattle.station.specs.Side.{sideFor}
 use Rattle.station.specs.Steps.{freshOf as freshStation, addOf, drawOf, showOf, receiveOf, messageFor}
 use Rattle.record.specs.Layout.{bytesOf}
 use Rattle.record.specs.Reading.{readOf}
@@ -9,9 +14,18 @@ use Rattle.record.specs.AtStation.{writeForAnswer, receiveBytesOf}
 use Rattle.table.specs.declared.steps.Step.the-variants.{Add, Draw, Send, Deliver, Lose}
 use Rattle.table.specs.declared.table.Table.{Table}
 use Rattle.table.specs.Fresh.{freshOf}
+use Rattle.table.specs.Lent.{sendInTold, loseInTold}
+use Rattle.table.specs.Running.{ranOf}
 use Rattle.table.specs.Steps.{stepOf}
-use Rattle.table.specs.Way.{onTheWay, atStations, asked as askedOf}
+use Rattle.table.specs.Way.{wayAsked, stationsAsked}
+use Rattle.script.specs.Filling.{turnOf}
+use Rattle.script.specs.Starting.{putOf, startedOf}
 use Rattle.demands.specs.Wrong.{stocked, gave, asked, pays}
+use Rattle.demands.specs.WrongScripts.{opening}
+
+-- a side that waits for what the message pays
+abbrev waits : Side
+waits = sideFor asked (pays .from)
 
 -- two stations with nothing, and the same with a message of station 0 at place 0
 abbrev empty : Table
@@ -22,8 +36,14 @@ waiting = stepOf empty (Send 0 1) .table
 
 abbrev pub doneAnswers : List ℕ
 doneAnswers =
+    -- take
+    takenOf waits pays .answer
+    -- add_to
+    ∷ addedTo 3 3 4 .answer
+    -- draw_from
+    ∷ drawnFrom 3 3 5 .answer
     -- fresh
-    freshStation 1 2 .answer
+    ∷ freshStation 1 2 .answer
     -- add
     ∷ addOf stocked 4 .answer
     -- draw
@@ -48,8 +68,20 @@ doneAnswers =
     ∷ stepOf empty (Send 0 1) .answer
     ∷ stepOf waiting (Deliver 0) .answer
     ∷ stepOf waiting (Lose 0) .answer
+    -- run
+    ∷ ranOf empty (0 ∷ 0 ∷ 10 ∷ []) (replicate 5 0) .answer
     -- on_the_way
-    ∷ askedOf empty (onTheWay empty) .answer
+    ∷ wayAsked empty .answer
     -- at_stations
-    ∷ askedOf empty (atStations empty) .answer
+    ∷ stationsAsked empty .answer
+    -- send_in, send_value
+    ∷ sendInTold (empty .pool) .answer
+    -- lose_in, lose_value
+    ∷ loseInTold (waiting .pool) 0 .answer
+    -- start
+    ∷ startedOf opening .answer
+    -- put_answer
+    ∷ putOf 13 (replicate 64 0) .answer
+    -- fill
+    ∷ turnOf opening (startedOf opening .run) 2048 .answer
     ∷ []

@@ -3,6 +3,7 @@ pub mod Cases
 pub mod Halves
 pub mod Cuts
 pub mod Wrong
+pub mod WrongRules
 pub mod WrongTables
 pub mod WrongScripts
 pub mod Demand1
@@ -16,3 +17,4 @@ pub mod WorkedScript
 pub mod Done
 pub mod Lent
 pub mod BoundCases
+pub mod Orders

@@ -10,7 +10,6 @@ use Rattle.station.specs.declared.station.Station.{Station}
 use Rattle.rules.specs.declared.message.Message.{Message}
 use Rattle.rules.specs.declared.report.Report.{Report}
 use Rattle.station.specs.declared.outcome.Outcome.{Outcome}
-use Rattle.rules.specs.declared.side.Side.{Side}
 use Rattle.station.specs.Held.{slotFor, tokenFor}
 use Rattle.station.specs.Side.{putSide}
 use Rattle.station.specs.Steps.{blank}

@@ -1,39 +1,59 @@
--- Wrong outcomes of the functions that look at parts of a table, and of a run of steps in one call.
-use mathlib.Core.List.{List, [], _∷_}
+-- Wrong outcomes of the test of a table, and of a run of steps in one call.
+use Prim.Native.Nat.{ℕ}
+use mathlib.Core.List.{List, [], _∷_, _++_}
 use lib.ListN.{replicate}
-use Rattle.rules.specs.Limits.{mostStations}
-use Rattle.table.specs.declared.steps.Step.the-variants.{Add, Send, Deliver, Lose}
-use Rattle.table.specs.declared.pool.Waiting.the-variants.{Empty, One}
-use Rattle.table.specs.Table.{mostPlaces, stationAt, below, lowestEmpty}
+use Rattle.table.specs.declared.steps.Asked.the-variants.{NoStep, OneStep}
+use Rattle.table.specs.declared.steps.Step.the-variants.{Deliver}
+use Rattle.table.specs.declared.table.Table.{Table}
+use Rattle.table.specs.Table.{stationAt}
 use Rattle.table.specs.Fresh.{freshOf}
-use Rattle.table.specs.Lent.{holding, sendInPool}
+use Rattle.table.specs.Running.{numbersFor, ranOf, toldOf}
 use Rattle.table.specs.Sound.{tableSound}
-use Rattle.table.specs.Steps.{planAt, placeLookedAt, stationLookedAt, needsPlace}
-use Rattle.measure.specs.Steps.{lastResult}
+use Rattle.measure.specs.Steps.{lastResultOf}
 use Rattle.demands.specs.Wrong.{Wrong, truth}
-use Rattle.demands.specs.WrongTables.{sent, free, hello}
+use Rattle.demands.specs.WrongTables.{sent}
+
+-- a table that is not sound: it has no stations
+abbrev unsound : Table
+unsound = freshOf 1 .table
+
+-- an add of 5 at station 0, then one of 6
+abbrev adds : List ℕ
+adds = 0 ∷ 0 ∷ 5 ∷ 0 ∷ 0 ∷ 6 ∷ []
+
+abbrev sevens : ℕ → List ℕ
+sevens n = replicate n 7
+
+-- answer, result, station 0's value, and what is then in what was lent to be told into
+abbrev ran : Table → List ℕ → List ℕ → List ℕ
+ran t codes told = let r = ranOf t codes told in (r .answer ∷ r .result ∷ stationAt (r .table) 0 .value ∷ []) ++ toldOf t codes told
+
+-- the same from a fresh table on: how many steps, and what they told
+abbrev ranFresh : List ℕ → List ℕ → List ℕ
+ranFresh codes told = let t = freshOf 2 .table in ranOf t codes told .result ∷ toldOf t codes told
 
 abbrev pub wrongParts : List Wrong
 wrongParts =
     -- table_is_sound: takes a table without stations; refuses a fresh one
-    record { promised = truth (tableSound (freshOf 1 .table)); wrong = 1 ∷ [] }
+    record { promised = truth (tableSound unsound); wrong = 1 ∷ [] }
     ∷ record { promised = truth (tableSound (freshOf 2 .table)); wrong = 0 ∷ [] }
-    -- plan_at: plans what was refused before; plans another station
-    ∷ record { promised = let p = planAt 12 2 (Add 0 1) (stationAt sent 0) Empty 64 in p .answer ∷ p .result ∷ []; wrong = 0 ∷ 11 ∷ [] }
-    ∷ record { promised = let p = planAt 0 2 (Add 1 5) (stationAt sent 1) Empty 64 in p .answer ∷ p .at ∷ []; wrong = 0 ∷ 0 ∷ [] }
-    -- place_looked_at: looks past the pool; looks at place 0 for any loss
-    ∷ record { promised = below (placeLookedAt (Deliver 64)) mostPlaces ∷ []; wrong = 64 ∷ [] }
-    ∷ record { promised = below (placeLookedAt (Lose 3)) mostPlaces ∷ []; wrong = 0 ∷ [] }
-    -- station_looked_at: the sender of what is delivered; the receiver of what is sent
-    ∷ record { promised = below (stationLookedAt (Deliver 0) (One hello)) mostStations ∷ []; wrong = 0 ∷ [] }
-    ∷ record { promised = below (stationLookedAt (Send 1 0) Empty) mostStations ∷ []; wrong = 0 ∷ [] }
-    -- needs_place: not for a send; for an add
-    ∷ record { promised = truth (needsPlace (Send 0 1)); wrong = 0 ∷ [] }
-    ∷ record { promised = truth (needsPlace (Add 0 1)); wrong = 1 ∷ [] }
-    -- lowest_empty: a place that is taken; a place of a full pool
-    ∷ record { promised = lowestEmpty (sendInPool free hello) ∷ []; wrong = 0 ∷ [] }
-    ∷ record { promised = lowestEmpty (replicate 64 (holding hello)) ∷ []; wrong = 63 ∷ [] }
+    -- run: does a step that there is no room to tell; does a step of which a number is missing
+    ∷ record { promised = ran sent adds (sevens 9); wrong = (0 ∷ 2 ∷ 21 ∷ 0 ∷ 15 ∷ 0 ∷ 0 ∷ 0 ∷ []) ++ sevens 4 }
+    ∷ record { promised = ran sent (0 ∷ 0 ∷ 5 ∷ 3 ∷ 0 ∷ []) (sevens 10); wrong = 0 ∷ 2 ∷ 15 ∷ 0 ∷ 15 ∷ 0 ∷ 0 ∷ 0 ∷ 0 ∷ 0 ∷ 4 ∷ 5 ∷ 0 ∷ [] }
+    -- run: of a table that is not sound it changes something; tells something; does nothing and answers 0
+    ∷ record { promised = ran unsound adds (sevens 10); wrong = (1 ∷ 0 ∷ 5 ∷ []) ++ sevens 10 }
+    ∷ record { promised = ran unsound adds (sevens 10); wrong = (1 ∷ 0 ∷ 0 ∷ 1 ∷ 0 ∷ 0 ∷ 0 ∷ 0 ∷ []) ++ sevens 5 }
+    ∷ record { promised = ran unsound adds (sevens 10); wrong = (0 ∷ 0 ∷ 0 ∷ []) ++ sevens 10 }
+    -- run: a number that names no step is done as an add; ends the run
+    ∷ record { promised = ran sent (5 ∷ 0 ∷ 5 ∷ []) (sevens 5); wrong = 0 ∷ 1 ∷ 15 ∷ 0 ∷ 15 ∷ 0 ∷ 0 ∷ 0 ∷ [] }
+    ∷ record { promised = ran sent (5 ∷ 0 ∷ 5 ∷ adds) (sevens 15); wrong = (0 ∷ 1 ∷ 10 ∷ 12 ∷ 0 ∷ 0 ∷ 0 ∷ 0 ∷ []) ++ sevens 10 }
+    -- numbers_for: names a delivery as a loss; names what is no step as an add
+    ∷ record { promised = numbersFor (OneStep (Deliver 3)); wrong = 4 ∷ 3 ∷ 0 ∷ [] }
+    ∷ record { promised = numbersFor NoStep; wrong = 0 ∷ 0 ∷ 0 ∷ [] }
+    -- qm_run: tells the last result; tells nothing of the steps
+    ∷ record { promised = ranFresh adds (sevens 10); wrong = 11 ∷ 0 ∷ 5 ∷ 0 ∷ 0 ∷ 0 ∷ 0 ∷ 11 ∷ 0 ∷ 0 ∷ 0 ∷ [] }
+    ∷ record { promised = ranFresh adds (sevens 10); wrong = 2 ∷ sevens 10 }
     -- qm_last_result: the first result; no step done
-    ∷ record { promised = lastResult (freshOf 2 .table) 0 (0 ∷ 0 ∷ 5 ∷ 0 ∷ 0 ∷ 6 ∷ []) ∷ []; wrong = 5 ∷ [] }
-    ∷ record { promised = lastResult (freshOf 2 .table) 0 (0 ∷ 0 ∷ 5 ∷ []) ∷ []; wrong = 0 ∷ [] }
+    ∷ record { promised = lastResultOf 2 adds ∷ []; wrong = 5 ∷ [] }
+    ∷ record { promised = lastResultOf 2 (0 ∷ 0 ∷ 5 ∷ []) ∷ []; wrong = 0 ∷ [] }
     ∷ []

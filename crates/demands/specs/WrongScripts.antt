@@ -7,7 +7,7 @@ use Rattle.script.specs.Filling.{turnOf}
 use Rattle.demands.specs.Wrong.{Wrong}
 
 -- `stations 2`, the same with a line `lose 5` behind it, and with a line `add` that cannot be read
-abbrev opening : List ℕ
+abbrev pub opening : List ℕ
 opening = wordStations ++ (32 ∷ 50 ∷ 10 ∷ [])
 
 abbrev losing : List ℕ

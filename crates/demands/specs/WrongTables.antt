@@ -6,7 +6,7 @@ use Rattle.rules.specs.declared.held.HeldSlot.the-variants.{NoSlot}
 use Rattle.rules.specs.declared.held.HeldToken.the-variants.{NoToken}
 use Rattle.rules.specs.declared.message.Message.{Message}
 use Rattle.table.specs.declared.table.Table.{Table}
-use Rattle.table.specs.declared.steps.Step.the-variants.{Add, Draw, Send, Deliver, Lose}
+use Rattle.table.specs.declared.steps.Step.the-variants.{Add, Send, Deliver, Lose}
 use Rattle.table.specs.declared.stepping.Stepped.{Stepped}
 use Rattle.table.specs.declared.pool.Waiting.{Waiting}
 use Rattle.table.specs.declared.pool.Waiting.the-variants.{Empty, One}
@@ -15,8 +15,8 @@ use Rattle.table.specs.declared.lent.Told.{Told}
 use Rattle.table.specs.Table.{stationAt, waitingAt, placeIn, putStation}
 use Rattle.table.specs.Lent.{sendInTold, sendInPool, loseInTold, loseInPool}
 use Rattle.table.specs.Fresh.{freshOf}
-use Rattle.table.specs.Steps.{planOf, stepOf}
-use Rattle.table.specs.Way.{onTheWay, atStations, asked}
+use Rattle.table.specs.Steps.{stepOf}
+use Rattle.table.specs.Way.{wayAsked, stationsAsked}
 use Rattle.demands.specs.Samples.{station1, from0, token}
 use Rattle.demands.specs.Wrong.{Wrong}
 
@@ -37,11 +37,15 @@ abbrev seen : Stepped → List ℕ
 seen r =
     r .answer ∷ r .result ∷ stationAt (r .table) 1 .destination .0 ∷ waitingNumber (waitingAt (r .table) 0) ∷ waitingNumber (waitingAt (r .table) 1) ∷ []
 
+-- answer, result, and the values of stations 0 and 1
+abbrev values : Stepped → List ℕ
+values r = r .answer ∷ r .result ∷ stationAt (r .table) 0 .value ∷ stationAt (r .table) 1 .value ∷ []
+
 -- 64 empty places, and a message
-abbrev pub free : List Place
+abbrev free : List Place
 free = replicate 64 (record { waiting = Empty })
 
-abbrev pub hello : Message
+abbrev hello : Message
 hello = from0 10 0 0 NoSlot NoToken
 
 -- answer, result, whether place 0 holds a message, and how many places there are
@@ -60,15 +64,15 @@ wrongTables =
     ∷ record { promised = seen (stepOf sent (Send 0 1)); wrong = 0 ∷ 0 ∷ 0 ∷ 1 ∷ 0 ∷ [] }
     ∷ record { promised = seen (stepOf sent (Lose 0)); wrong = 0 ∷ 0 ∷ 0 ∷ 1 ∷ 0 ∷ [] }
     ∷ record { promised = seen (stepOf sent (Deliver 1)); wrong = 0 ∷ 0 ∷ 0 ∷ 1 ∷ 0 ∷ [] }
-    -- plan_for: plans another station; plans what is refused
-    ∷ record { promised = let p = planOf sent (Draw 1 5) in p .answer ∷ p .at ∷ []; wrong = 0 ∷ 0 ∷ [] }
-    ∷ record { promised = let p = planOf sent (Deliver 64) in p .answer ∷ p .at ∷ []; wrong = 8 ∷ 0 ∷ [] }
+    -- step: an add to the neighbour; a place past the pool that is empty and not missing
+    ∷ record { promised = values (stepOf sent (Add 1 5)); wrong = 0 ∷ 15 ∷ 15 ∷ 0 ∷ [] }
+    ∷ record { promised = seen (stepOf sent (Deliver 64)); wrong = 8 ∷ 0 ∷ 0 ∷ 1 ∷ 0 ∷ [] }
     -- on_the_way: counts a stored token that no slot waits for; answers an unsound table
-    ∷ record { promised = let r = asked stored (onTheWay stored) in r .answer ∷ r .result ∷ []; wrong = 0 ∷ 5 ∷ [] }
-    ∷ record { promised = let t = freshOf 1 .table in asked t (onTheWay t) .answer ∷ []; wrong = 0 ∷ [] }
+    ∷ record { promised = let r = wayAsked stored in r .answer ∷ r .result ∷ []; wrong = 0 ∷ 5 ∷ [] }
+    ∷ record { promised = wayAsked (freshOf 1 .table) .answer ∷ []; wrong = 0 ∷ [] }
     -- at_stations: leaves the last station out; answers an unsound table
-    ∷ record { promised = let t = stepOf (freshOf 2 .table) (Add 1 10) .table in asked t (atStations t) .result ∷ []; wrong = 0 ∷ [] }
-    ∷ record { promised = let t = freshOf 1 .table in asked t (atStations t) .answer ∷ []; wrong = 0 ∷ [] }
+    ∷ record { promised = stationsAsked (stepOf (freshOf 2 .table) (Add 1 10) .table) .result ∷ []; wrong = 0 ∷ [] }
+    ∷ record { promised = stationsAsked (freshOf 1 .table) .answer ∷ []; wrong = 0 ∷ [] }
     -- send_in, send_value: takes the highest empty place; takes a slice of 63 places for a pool
     ∷ record { promised = lentSeen (sendInTold free) (sendInPool free hello); wrong = 0 ∷ 63 ∷ 0 ∷ 64 ∷ [] }
     ∷ record { promised = lentSeen (sendInTold (drop 1 free)) (sendInPool (drop 1 free) hello); wrong = 0 ∷ 0 ∷ 1 ∷ 63 ∷ [] }

@@ -1,0 +1,57 @@
+-- Wrong outcomes of what is done at one side, to a stock, and to clocks.
+use Prim.Native.Nat.{ℕ}
+use mathlib.Core.Bool.{true, false}
+use mathlib.Core.List.{List, [], _∷_, _++_}
+use Rattle.rules.specs.declared.held.HeldToken.the-variants.{NoToken}
+use Rattle.rules.specs.declared.report.Report.{Report}
+use Rattle.rules.specs.declared.side.Side.{Side}
+use Rattle.rules.specs.declared.stock.Stock.{Stock}
+use Rattle.rules.specs.declared.taking.Taken.{Taken}
+use Rattle.rules.specs.Clocks.{sourceInRange, sourceAbove, destinationInRange, destinationAbove}
+use Rattle.rules.specs.Limits.{lastClock, mostIntake}
+use Rattle.rules.specs.Report.{rulesOf}
+use Rattle.rules.specs.Stock.{addedTo, drawnFrom}
+use Rattle.rules.specs.Taking.{takenOf}
+use Rattle.demands.specs.Samples.{slot, slotNumbers}
+use Rattle.demands.specs.Wrong.{Wrong, truth, pays}
+
+-- a side with this value that waits for 5
+abbrev waits : ℕ → Side
+waits value = record { value = value; source = record { 0 = 0 }; destination = record { 0 = 1 }; slot = slot 0 0 5; token = NoToken }
+
+-- answer, result, value, and the slot
+abbrev takenNumbers : Taken → List ℕ
+takenNumbers r = (r .answer ∷ r .result ∷ r .side .value ∷ []) ++ slotNumbers (r .side .slot)
+
+abbrev stockNumbers : Stock → List ℕ
+stockNumbers r = r .answer ∷ r .result ∷ r .value ∷ r .intake ∷ []
+
+-- rules 1 and 3 acted
+abbrev oneAndThree : Report
+oneAndThree = record { rule1 = true; rule2 = false; rule3 = true; rule4 = false; rule5 = false; opened = 3; made = 0 }
+
+abbrev pub wrongRules : List Wrong
+wrongRules =
+    -- take: leaves the slot that it fills; fills past the limit
+    record { promised = takenNumbers (takenOf (waits 2) pays); wrong = 0 ∷ 5 ∷ 7 ∷ 0 ∷ 0 ∷ 5 ∷ [] }
+    ∷ record { promised = takenNumbers (takenOf (waits 16000000000) pays); wrong = 0 ∷ 5 ∷ 16000000005 ∷ [] }
+    -- add_to: tells the amount; adds past the limit of the intake
+    ∷ record { promised = stockNumbers (addedTo 3 3 4); wrong = 0 ∷ 4 ∷ 7 ∷ 7 ∷ [] }
+    ∷ record { promised = stockNumbers (addedTo 0 mostIntake 1); wrong = 0 ∷ 1 ∷ 1 ∷ 1000000001 ∷ [] }
+    -- draw_from: tells an invented amount; lowers the intake
+    ∷ record { promised = stockNumbers (drawnFrom 3 3 5); wrong = 0 ∷ 5 ∷ 0 ∷ 3 ∷ [] }
+    ∷ record { promised = stockNumbers (drawnFrom 3 3 5); wrong = 0 ∷ 3 ∷ 0 ∷ 0 ∷ [] }
+    -- in_range of either clock: refuses the last number; refuses 0
+    ∷ record { promised = truth (sourceInRange (record { 0 = lastClock })); wrong = 0 ∷ [] }
+    ∷ record { promised = truth (sourceInRange (record { 0 = 0 })); wrong = 0 ∷ [] }
+    ∷ record { promised = truth (destinationInRange (record { 0 = lastClock })); wrong = 0 ∷ [] }
+    ∷ record { promised = truth (destinationInRange (record { 0 = 0 })); wrong = 0 ∷ [] }
+    -- is_above of either clock: holds of the same number; looks the other way
+    ∷ record { promised = truth (sourceAbove (record { 0 = 5 }) (record { 0 = 5 })); wrong = 1 ∷ [] }
+    ∷ record { promised = truth (sourceAbove (record { 0 = 5 }) (record { 0 = 6 })); wrong = 1 ∷ [] }
+    ∷ record { promised = truth (destinationAbove (record { 0 = 5 }) (record { 0 = 5 })); wrong = 1 ∷ [] }
+    ∷ record { promised = truth (destinationAbove (record { 0 = 5 }) (record { 0 = 6 })); wrong = 1 ∷ [] }
+    -- rules_of: tells how many rules acted; leaves the third out
+    ∷ record { promised = rulesOf oneAndThree ∷ []; wrong = 2 ∷ [] }
+    ∷ record { promised = rulesOf oneAndThree ∷ []; wrong = 1 ∷ [] }
+    ∷ []
