@@ -27,7 +27,7 @@ fn timed(n: usize, mut first: impl FnMut(), mut second: impl FnMut()) -> (f64, f
     (least.0 / n as f64, least.1 / n as f64)
 }
 
-fn told(name: &str, times: (f64, f64)) {
+fn print_row(name: &str, times: (f64, f64)) {
     println!("| {name} | {:.0} | {:.0} | {:.2} |", times.0, times.1, times.0 / times.1);
 }
 
@@ -56,7 +56,7 @@ fn time_records(random: &mut Random) {
             })
         },
     );
-    told("a record read", times);
+    print_row("a record read", times);
     let mut second = [0u8; 80];
     let times = timed(
         all.len(),
@@ -71,7 +71,7 @@ fn time_records(random: &mut Random) {
             })
         },
     );
-    told("a record written", times);
+    print_row("a record written", times);
 }
 
 fn time_receiving(random: &mut Random) {
@@ -96,12 +96,27 @@ fn time_receiving(random: &mut Random) {
             })
         },
     );
-    told("bytes received at a station of 16", times);
+    print_row("bytes received at a station of 16", times);
 }
 
 fn time_steps(random: &mut Random) {
     for count in [2, 4, 8, 16] {
         let codes = steps(random, count, 4000);
+        let mut told = [vec![0u64; 20_000], vec![0u64; 20_000]];
+        let done =
+            [proved::run(count, &codes, &mut told[0]), table::run(count, &codes, &mut told[1])];
+        assert_eq!((done[0], &told[0]), (done[1], &told[1]));
+        let [first, second] = &mut told;
+        let times = timed(
+            codes.len() / 3,
+            || {
+                black_box(proved::run(count, black_box(&codes), first));
+            },
+            || {
+                black_box(table::run(count, black_box(&codes), second));
+            },
+        );
+        print_row(&format!("a step in a run of 4,000 on a table of {count}"), times);
         assert_eq!(proved::last_result(count, &codes), table::last_result(count, &codes));
         let times = timed(
             codes.len() / 3,
@@ -112,7 +127,7 @@ fn time_steps(random: &mut Random) {
                 black_box(table::last_result(count, black_box(&codes)));
             },
         );
-        told(&format!("a step of a table of {count}, in a mix"), times);
+        print_row(&format!("a step by value on a table of {count}, tested before each"), times);
     }
 }
 
@@ -140,7 +155,7 @@ fn time_scripts(random: &mut Random, bench: &str, by_hand: &str) {
             || drop(run(bench, &script)),
             || drop(run(by_hand, &script)),
         );
-        told(&format!("a script of 65,000 bytes on {count} stations, a line"), times);
+        print_row(&format!("a script of 65,000 bytes on {count} stations, a line"), times);
     }
 }
 

@@ -7,6 +7,7 @@ extern "C" {
     fn qb_record_write(message: *const [u64; 13], out: *mut u8, length: usize) -> Told;
     fn qb_station_receive(station: *mut [u64; 134], record: *const u8, length: usize) -> Told;
     fn qm_last_result(count: u64, codes: *const u64, length: usize) -> u64;
+    fn qm_run(count: u64, codes: *const u64, length: usize, told: *mut u64, room: usize) -> u64;
 }
 
 pub fn read(bytes: &[u8], message: &mut [u64; 13]) -> Told {
@@ -27,4 +28,9 @@ pub fn receive(station: &mut [u64; 134], bytes: &[u8]) -> Told {
 pub fn last_result(count: u64, codes: &[u64]) -> u64 {
     // SAFETY: as above.
     unsafe { qm_last_result(count, codes.as_ptr(), codes.len()) }
+}
+
+pub fn run(count: u64, codes: &[u64], told: &mut [u64]) -> u64 {
+    // SAFETY: as above.
+    unsafe { qm_run(count, codes.as_ptr(), codes.len(), told.as_mut_ptr(), told.len()) }
 }

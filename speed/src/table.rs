@@ -1,4 +1,4 @@
-//! A table of stations changed in place, with the test of soundness before every step: what the proved table's step is timed against.
+//! A table of stations changed in place, tested for soundness before every step or once before a run: what the proved table is timed against.
 
 /// A slot or a token.
 #[derive(Clone, Copy)]
@@ -84,10 +84,11 @@ impl Station {
             })
     }
 
-    /// The five rules. The result is the amount filled, or the refusal 10.
-    fn receive(&mut self, m: &Message) -> Result<u64, u8> {
+    /// The five rules: the amount filled, the rules that acted as a sum of 1, 2, 4, 8, 16, and the quantities of a slot opened and a token made; or the refusal 10.
+    fn receive(&mut self, m: &Message) -> Result<[u64; 4], u8> {
         let j = m.from;
         let mut filled = 0;
+        let mut rules = 0;
         if let (Some(t), Some(l)) = (m.token, self.slots[j]) {
             if t.source == l.source && t.destination == l.destination {
                 if self.value + t.quantity > MOST_VALUE {
@@ -96,34 +97,45 @@ impl Station {
                 self.value += t.quantity;
                 self.slots[j] = None;
                 filled = t.quantity;
+                rules |= 1;
             }
         }
-        self.slots[j] = self.slots[j].filter(|l| l.source >= m.source);
-        self.open_slot(m);
-        if m.slot.is_none() {
-            self.tokens[j] = self.tokens[j].filter(|t| t.destination >= m.destination);
+        if self.slots[j].is_some_and(|l| l.source < m.source) {
+            self.slots[j] = None;
+            rules |= 2;
         }
-        self.make_token(m);
-        Ok(filled)
+        let opened = self.open_slot(m);
+        rules |= u64::from(opened > 0) << 2;
+        if m.slot.is_none() && self.tokens[j].is_some_and(|t| t.destination < m.destination) {
+            self.tokens[j] = None;
+            rules |= 8;
+        }
+        let made = self.make_token(m);
+        rules |= u64::from(made.is_some()) << 4;
+        Ok([filled, rules, opened, made.unwrap_or(0)])
     }
 
-    fn open_slot(&mut self, m: &Message) {
+    fn open_slot(&mut self, m: &Message) -> u64 {
         let half = m.value.saturating_sub(self.value) / 2;
         if self.slots[m.from].is_none() && half >= 1 && self.destination < u32::MAX {
             self.slots[m.from] =
                 Some(Held { source: m.source, destination: self.destination, quantity: half });
             self.destination += 1;
+            return half;
         }
+        0
     }
 
-    fn make_token(&mut self, m: &Message) {
-        let Some(l) = m.slot else { return };
+    fn make_token(&mut self, m: &Message) -> Option<u64> {
+        let l = m.slot?;
         if l.source == self.source && self.source < u32::MAX {
             let q = self.value.min(l.quantity);
             self.value -= q;
             self.tokens[m.from] = Some(Held { quantity: q, ..l });
             self.source += 1;
+            return Some(q);
         }
+        None
     }
 }
 
@@ -150,7 +162,8 @@ impl Table {
         Table { count, stations, pool: [None; 64] }
     }
 
-    fn sound(&self) -> bool {
+    /// Whether it is sound.
+    pub fn sound(&self) -> bool {
         (2..=16).contains(&self.count)
             && (0..self.count).all(|k| {
                 let s = &self.stations[k];
@@ -159,18 +172,44 @@ impl Table {
             && self.pool.iter().flatten().all(|m| m.sound(self.count))
     }
 
-    /// One step, of three numbers: 0 add, 1 draw, 2 send, 3 deliver, any other lose.
+    /// One step with the test before it: its result.
     pub fn step(&mut self, kind: u64, a: u64, b: u64) -> Result<u64, u8> {
         if !self.sound() {
             return Err(1);
         }
+        self.step_of_sound(kind, a, b).map(|told| told[0])
+    }
+
+    /// One step, of three numbers: 0 add, 1 draw, 2 send, 3 deliver, 4 lose. Its result and its report.
+    fn step_of_sound(&mut self, kind: u64, a: u64, b: u64) -> Result<[u64; 4], u8> {
+        let plain = |result| [result, 0, 0, 0];
         match kind {
-            0 => self.add(a, b),
-            1 => self.draw(a, b),
-            2 => self.send(a, b),
+            0 => self.add(a, b).map(plain),
+            1 => self.draw(a, b).map(plain),
+            2 => self.send(a, b).map(plain),
             3 => self.deliver(a),
-            _ => self.lose(a),
+            4 => self.lose(a).map(plain),
+            _ => Err(12),
         }
+    }
+
+    /// As many steps as there is room to tell of, after one test: how many were done.
+    pub fn run(&mut self, codes: &[u64], told: &mut [u64]) -> u64 {
+        if !self.sound() {
+            return 0;
+        }
+        let mut done = 0;
+        for (code, tell) in codes.chunks_exact(3).zip(told.chunks_exact_mut(5)) {
+            match self.step_of_sound(code[0], code[1], code[2]) {
+                Ok(report) => {
+                    tell[0] = 0;
+                    tell[1..].copy_from_slice(&report);
+                }
+                Err(answer) => tell.copy_from_slice(&[u64::from(answer), 0, 0, 0, 0]),
+            }
+            done += 1;
+        }
+        done
     }
 
     fn add(&mut self, k: u64, amount: u64) -> Result<u64, u8> {
@@ -229,7 +268,7 @@ impl Table {
         Ok(place as u64)
     }
 
-    fn deliver(&mut self, p: u64) -> Result<u64, u8> {
+    fn deliver(&mut self, p: u64) -> Result<[u64; 4], u8> {
         if p >= 64 {
             return Err(7);
         }
@@ -273,4 +312,9 @@ pub fn last_result(count: u64, codes: &[u64]) -> u64 {
         last = table.step(code[0], code[1], code[2]).unwrap_or(0);
     }
     last
+}
+
+/// A run of steps from a fresh table on: how many were done.
+pub fn run(count: u64, codes: &[u64], told: &mut [u64]) -> u64 {
+    Table::fresh(count as usize).run(codes, told)
 }

@@ -1,9 +1,9 @@
 -- Written and read: the first bytes of a buffer after a write that was done, as many as its result says, read back as the message; and bytes that were
 -- lent to a reading and accepted are what writing their message gives. Assumes nothing.
 use Prim.Native.Nat.{ℕ, zero, suc}
-use mathlib.Core.Path.{_≡_, refl, sym}
+use mathlib.Core.Path.{_≡_, refl, sym, _∙_}
 use mathlib.Core.Bool.{true, not}
-use mathlib.Core.List.{List}
+use mathlib.Core.List.{List, _++_}
 use native.Mathlib.Omega.{arith}
 use lib.ListN.{length, getD, take, drop}
 use lib.Seq.{take-append-seam}
@@ -12,17 +12,17 @@ use mir.Syntax.{w8}
 use mir.Val.{Fits}
 use Rattle.station.specs.declared.station.Station.{Station}
 use Rattle.rules.specs.declared.message.Message.{Message}
-use Rattle.rules.specs.Refusals.{orElse}
+use Rattle.rules.specs.Refusals.{Refusal, answerOf}
 use Rattle.station.specs.Sound.{messageSound}
-use Rattle.station.specs.Steps.{showAnswer, messageFor}
-use Rattle.rules.proofs.Refusing.{passed}
+use Rattle.station.specs.Steps.{showRefusals, messageFor}
+use Rattle.rules.proofs.Refusing.{passed, answer-before}
 use Rattle.station.proofs.Keeps.{message-sound}
 use Rattle.record.specs.declared.reading.Reading.{Reading}
 use Rattle.record.specs.declared.writing.Written.{Written}
 use Rattle.record.specs.Layout.{bytesOf}
 use Rattle.record.specs.Reading.{readOf}
 use Rattle.record.specs.Writing.{Writes, writeAnswer}
-use Rattle.record.specs.AtStation.{writeForAnswer}
+use Rattle.record.specs.AtStation.{roomRefusals, writeForAnswer}
 use Rattle.record.proofs.ReadBack.{read-back}
 use Rattle.record.proofs.Exact.{exact}
 
@@ -51,16 +51,20 @@ written-reads-back m before r after w e =
     let p = put (writeAnswer m (length before)) (bytesOf m) before r after w e in
     reads-back m _ r after (not-false _ (passed (not (messageSound m)) 8 (p .done) .0)) p
 
-shown-first : (n later : ℕ) → orElse n later ≡ 0 → n ≡ 0
-shown-first zero later e = refl
-shown-first (suc n) later e = e
+-- where nothing refuses, no earlier condition does
+none-before : (xs ys : List Refusal) → answerOf (xs ++ ys) ≡ 0 → answerOf xs ≡ 0
+none-before xs ys e = by (answerOf xs) refl
+  where
+    by : (n : ℕ) → answerOf xs ≡ n → answerOf xs ≡ 0
+    by zero z = z
+    by (suc n) z = sym (answer-before xs ys (λ f. omega arith)) ∙ e
 
 -- of a station's message for another, with what `write_message` promises
 pub message-reads-back : (s : Station) (to : ℕ) (before : List ℕ) (r : Written) (after : List ℕ)
     → Writes (writeForAnswer s to (length before)) (bytesOf (messageFor s to)) before r after → r .answer ≡ 0 → ReadsBack (messageFor s to) r after
 message-reads-back s to before r after w e =
     let p = put (writeForAnswer s to (length before)) (bytesOf (messageFor s to)) before r after w e in
-    reads-back (messageFor s to) _ r after (message-sound s to (shown-first (showAnswer s to) _ (p .done))) p
+    reads-back (messageFor s to) _ r after (message-sound s to (none-before (showRefusals s to) (roomRefusals s to (length before)) (p .done))) p
 
 -- What a lent `&[u8]` holds are bytes: this is the type's own fact, which every function that looks into the slice is given (`shared-slice-known`), and asks
 -- nothing of a caller.

@@ -1,5 +1,5 @@
 -- Refusals as a list: conditions with their numbers, in the order in which they are looked at.
-use Prim.Native.Nat.{ℕ, zero, suc}
+use Prim.Native.Nat.{ℕ}
 use mathlib.Core.Bool.{Bool, cond}
 use mathlib.Core.List.{List, [], _∷_}
 use Rattle.rules.specs.Answers.{done}
@@ -24,8 +24,3 @@ numbersIn (r ∷ rs) = r .number ∷ numbersIn rs
 -- the answer is n where the test holds, and else what the later tests give
 abbrev pub first : Bool → ℕ → ℕ → ℕ
 first t n later = cond t n later
-
--- an answer, or where it is 0 the one that is looked for next
-abbrev pub orElse : ℕ → ℕ → ℕ
-orElse zero later = later
-orElse (suc n) later = suc n
