@@ -1,5 +1,5 @@
--- The orders in which document 01 prints the refusals of each step and entry point, beside the numbers of the lists that the answers are computed from; and
--- what each can then answer.
+-- The numbers of each list of refusals, from which an answer is computed, beside the order that document 01 prints for it; and what each entry point and step
+-- can then answer. `start`, `put_answer` and `fill` compute their answers from no such list: of them it is said only what they can answer.
 use Prim.Native.Nat.{ℕ}
 use mathlib.Core.List.{List, [], _∷_, List·Memᴰ}
 use Rattle.rules.specs.declared.message.Message.{Message}
@@ -61,13 +61,13 @@ orders s t m x pool bytes i j k =
     -- reading a record, the sum on the way
     ∷ order (readRefusals bytes) (9 ∷ [])
     ∷ order (sumRefusals t) (1 ∷ [])
-    -- the document's order of a message in any form: received by value, and shown
+    -- where no order is printed it is that of the whole without what is not looked at. Receiving a message by value, and showing one: no buffer
     ∷ order (receiveRefusals s m) (1 ∷ 9 ∷ 2 ∷ 11 ∷ 10 ∷ [])
     ∷ order (showRefusals s i) (1 ∷ 2 ∷ 3 ∷ [])
-    -- send and lose on a lent pool, which has no stations
+    -- send and lose on a lent pool: no stations
     ∷ order (sendInRefusals pool) (1 ∷ 6 ∷ [])
     ∷ order (loseInRefusals pool i) (1 ∷ 7 ∷ 8 ∷ [])
-    -- the rules at one side, an add and a draw to a stock
+    -- the rules at one side: no station numbers. An add and a draw to a stock
     ∷ order (takeRefusals x m) (1 ∷ 9 ∷ 10 ∷ [])
     ∷ order (addToRefusals i j k) (1 ∷ 4 ∷ 5 ∷ 10 ∷ [])
     ∷ order (drawFromRefusals i j k) (1 ∷ 4 ∷ [])
