@@ -101,8 +101,9 @@ fn time_receiving(random: &mut Random) {
 
 fn time_steps(random: &mut Random) {
     for count in [2, 4, 8, 16] {
-        let codes = steps(random, count, 4000);
-        let mut told = [vec![0u64; 20_000], vec![0u64; 20_000]];
+        // so long that no processor learns it by heart
+        let codes = steps(random, count, 20_000);
+        let mut told = [vec![0u64; 100_000], vec![0u64; 100_000]];
         let done =
             [proved::run(count, &codes, &mut told[0]), table::run(count, &codes, &mut told[1])];
         assert_eq!((done[0], &told[0]), (done[1], &told[1]));
@@ -116,15 +117,16 @@ fn time_steps(random: &mut Random) {
                 black_box(table::run(count, black_box(&codes), second));
             },
         );
-        print_row(&format!("a step in a run of 4,000 on a table of {count}"), times);
-        assert_eq!(proved::last_result(count, &codes), table::last_result(count, &codes));
+        print_row(&format!("a step in a run of 20,000 on a table of {count}"), times);
+        let codes = &codes[..12_000];
+        assert_eq!(proved::last_result(count, codes), table::last_result(count, codes));
         let times = timed(
             codes.len() / 3,
             || {
-                black_box(proved::last_result(count, black_box(&codes)));
+                black_box(proved::last_result(count, black_box(codes)));
             },
             || {
-                black_box(table::last_result(count, black_box(&codes)));
+                black_box(table::last_result(count, black_box(codes)));
             },
         );
         print_row(&format!("a step by value on a table of {count}, tested before each"), times);
