@@ -45,19 +45,14 @@ use Rattle.table.proofs.Ran.{step-answers}
 use Rattle.table.proofs.Same.{deliver-same}
 use Rattle.script.specs.declared.starting.Put.{Put}
 use Rattle.script.specs.declared.starting.Run.{Run}
-use Rattle.script.specs.declared.words.Numeral.{Numeral}
-use Rattle.script.specs.declared.words.Numeral.the-variants.{Unreadable, Reads}
-use Rattle.script.specs.Closing.{closingRoom}
-use Rattle.script.specs.Filling.{runSound, atOnce, Turn, still, stepped, closed, turnOf}
-use Rattle.script.specs.Lines.{stationsOf}
-use Rattle.script.specs.Reading.{lineAt, pastLine}
-use Rattle.script.specs.Script.{mostBytes}
-use Rattle.script.specs.Starting.{notStarted, startFor, stepRoom, startedOf}
+use Rattle.script.specs.Filling.{fillRefusals}
+use Rattle.script.specs.Starting.{putRefusals, startRefusals}
+use Rattle.script.proofs.Answers.{start-tells, fill-tells}
 use Rattle.demands.specs.Orders.{Order, orders, OneOf, Answers}
 
-pub orders-printed : (s : Station) (t : Table) (m : Message) (x : Side) (pool : List Place) (bytes : List ℕ) (i j k : ℕ)
-    → map (λ (o : Order). o .found) (orders s t m x pool bytes i j k) ≡ map (λ (o : Order). o .printed) (orders s t m x pool bytes i j k)
-orders-printed s t m x pool bytes i j k = refl
+pub orders-printed : (s : Station) (t : Table) (m : Message) (x : Side) (pool : List Place) (run : Run) (bytes : List ℕ) (i j k : ℕ)
+    → map (λ (o : Order). o .found) (orders s t m x pool run bytes i j k) ≡ map (λ (o : Order). o .printed) (orders s t m x pool run bytes i j k)
+orders-printed s t m x pool run bytes i j k = refl
 
 -- an answer that is found in a list is 0 or one of its numbers
 by-list : (rs : List Refusal) {answer : ℕ} → answer ≡ answerOf rs → OneOf answer (numbersIn rs)
@@ -113,33 +108,6 @@ fits-or false g n before m = List·Memᴰ·tail (List·Memᴰ·head refl)
 given-answer : (g : Given) {ns : List ℕ} → OneOf (g .told .answer) ns → (r : Told) (after : List ℕ) → Gives g r after → OneOf (r .answer) ns
 given-answer g m r after p = rw (p .told) m
 
--- a script
-start-by : (long : Bool) (first : Numeral) (at : ℕ) → OneOf (cond long (notStarted longScript) (startFor first at) .answer) (13 ∷ 12 ∷ 1 ∷ [])
-unfolding freshTableOf
-start-by true first at = List·Memᴰ·tail (List·Memᴰ·head refl)
-start-by false Unreadable at = List·Memᴰ·tail (List·Memᴰ·tail (List·Memᴰ·head refl))
-start-by false (Reads count) at =
-    by-test (countSound count) (λ e. rw e (List·Memᴰ·head refl)) (λ e. rw e (List·Memᴰ·tail (List·Memᴰ·tail (List·Memᴰ·tail (List·Memᴰ·head refl)))))
-
-start-answers : (script : List ℕ) → OneOf (startedOf script .answer) (13 ∷ 12 ∷ 1 ∷ [])
-unfolding startedOf
-start-answers script = start-by (ltb mostBytes (length script)) (stationsOf (lineAt script 0)) (pastLine script 0)
-
-fill-by : (a b c d : Bool) (u v w x y : Turn) → u .answer ≡ 1 → v .answer ≡ 14 → w .answer ≡ 0 → x .answer ≡ 0 → y .answer ≡ 0
-    → OneOf (cond a u (cond b v (cond c w (cond d x y))) .answer) (1 ∷ 14 ∷ [])
-fill-by true b c d u v w x y p q e f g = List·Memᴰ·tail (List·Memᴰ·head p)
-fill-by false true c d u v w x y p q e f g = List·Memᴰ·tail (List·Memᴰ·tail (List·Memᴰ·head q))
-fill-by false false true d u v w x y p q e f g = List·Memᴰ·head e
-fill-by false false false true u v w x y p q e f g = List·Memᴰ·head f
-fill-by false false false false u v w x y p q e f g = List·Memᴰ·head g
-
-turn-answers : (script : List ℕ) (run : Run) (room : ℕ) → OneOf (turnOf script run room .answer) (1 ∷ 14 ∷ [])
-unfolding turnOf
-turn-answers script run room =
-    fill-by (not (runSound run)) (ltb room closingRoom) (run .finished) (ltb (run .at) (length script))
-    (still notSound run) (still shortBuffer run) (still done run) (stepped script run (atOnce room)) (closed run)
-    refl refl refl refl refl
-
 pub answers : Answers
 unfolding freshBy addBy drawBy showBy receiveBy readBy writeBy
 answers =
@@ -190,7 +158,7 @@ answers =
           λ message out.
           let rs = writeRefusals (messageOf message) (length out) in
           given-answer (writeBy message out) (fits-or (messageFits message) _ noRecord out (by-list rs (written-tells (answerOf rs) _)));
-      start = start-answers;
-      put-answer = λ answer out r out′ p. by-list (when (ltb (length out) stepRoom) shortBuffer ∷ []) (ap (λ (r : Put). r .answer) (p .put));
-      fill = λ script run out r out′ p. rw (p .filled) (turn-answers script run (length out));
+      start = λ script. by-list (startRefusals script) (start-tells script);
+      put-answer = λ answer out r out′ p. by-list (putRefusals out) (ap (λ (r : Put). r .answer) (p .put));
+      fill = λ script run out r out′ p. rw (p .filled) (by-list (fillRefusals run (length out)) (fill-tells script run (length out)));
     }

@@ -1,5 +1,5 @@
 -- The numbers of each list of refusals, from which an answer is computed, beside the order that document 01 prints for it; and what each entry point and step
--- can then answer. `start`, `put_answer` and `fill` compute their answers from no such list: of them it is said only what they can answer.
+-- can then answer.
 use Prim.Native.Nat.{ℕ}
 use mathlib.Core.List.{List, [], _∷_, List·Memᴰ}
 use Rattle.rules.specs.declared.message.Message.{Message}
@@ -28,8 +28,8 @@ use Rattle.table.specs.Way.{sumRefusals, wayAsked, stationsAsked}
 use Rattle.script.specs.declared.filling.Filled.{Filled}
 use Rattle.script.specs.declared.starting.Put.{Put}
 use Rattle.script.specs.declared.starting.Run.{Run}
-use Rattle.script.specs.Filling.{Fills}
-use Rattle.script.specs.Starting.{PutsAnswer, startedOf}
+use Rattle.script.specs.Filling.{Fills, fillRefusals}
+use Rattle.script.specs.Starting.{PutsAnswer, putRefusals, startRefusals, startedOf}
 
 -- the numbers of a list of refusals in their order, and the order that is printed
 pub record Order : Type 0 where
@@ -40,8 +40,8 @@ abbrev order : List Refusal → List ℕ → Order
 order refusals printed = record { found = numbersIn refusals; printed = printed }
 
 -- of any station, table, message, side, pool and bytes, and of any three numbers
-abbrev pub orders : Station → Table → Message → Side → List Place → List ℕ → ℕ → ℕ → ℕ → List Order
-orders s t m x pool bytes i j k =
+abbrev pub orders : Station → Table → Message → Side → List Place → Run → List ℕ → ℕ → ℕ → ℕ → List Order
+orders s t m x pool run bytes i j k =
     -- the steps of a table: add, draw, send, deliver, lose
     order (stepRefusals t (Add i j)) (1 ∷ 2 ∷ 4 ∷ 5 ∷ 10 ∷ [])
     ∷ order (stepRefusals t (Draw i j)) (1 ∷ 2 ∷ 4 ∷ [])
@@ -71,6 +71,10 @@ orders s t m x pool bytes i j k =
     ∷ order (takeRefusals x m) (1 ∷ 9 ∷ 10 ∷ [])
     ∷ order (addToRefusals i j k) (1 ∷ 4 ∷ 5 ∷ 10 ∷ [])
     ∷ order (drawFromRefusals i j k) (1 ∷ 4 ∷ [])
+    -- a script: an overlong one is tested first, then its first line, then the count; and the two calls that put its output
+    ∷ order (startRefusals bytes) (13 ∷ 12 ∷ 1 ∷ [])
+    ∷ order (putRefusals bytes) (14 ∷ [])
+    ∷ order (fillRefusals run i) (1 ∷ 14 ∷ [])
     ∷ []
 
 -- an answer that is 0 or one of these numbers

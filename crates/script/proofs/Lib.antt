@@ -16,3 +16,4 @@ pub mod Refused
 pub mod Whole
 pub mod Loops
 pub mod Samples
+pub mod Answers

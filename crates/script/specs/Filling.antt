@@ -2,11 +2,12 @@
 use Prim.Native.Nat.{ℕ, _+_, _/_, min}
 use mathlib.Core.Path.{_≡_}
 use mathlib.Core.Bool.{Bool, true, false, cond, not, _&&_}
-use mathlib.Core.List.{List, []}
+use mathlib.Core.List.{List, [], _∷_}
 use lib.Dec.{leb, ltb}
 use lib.ListN.{length}
 use lib.Seq.{sets}
 use Rattle.rules.specs.Answers.{done, notSound, shortBuffer}
+use Rattle.rules.specs.Refusals.{Refusal, when}
 use Rattle.table.specs.Sound.{tableSound}
 use Rattle.table.specs.Running.{leftBy}
 use Rattle.script.specs.declared.starting.Run.{Run}
@@ -50,6 +51,9 @@ abbrev pub closed : Run → Turn
 closed run =
     let next : Run = record { table = run .table; at = run .at; number = run .number; finished = true } in
     record { answer = done; bytes = closing (run .table); run = next }
+
+abbrev pub fillRefusals : Run → ℕ → List Refusal
+fillRefusals run room = when (not (runSound run)) notSound ∷ when (ltb room closingRoom) shortBuffer ∷ []
 
 -- refused by 1, 14; a finished run puts nothing; one with lines left puts the lines of steps, and one at its end the closing lines
 unfoldable pub turnOf : List ℕ → Run → ℕ → Turn

@@ -1,12 +1,14 @@
 -- What starting a script does, and the line of a script that is refused.
 use Prim.Native.Nat.{ℕ, zero, suc}
 use mathlib.Core.Path.{_≡_}
-use mathlib.Core.Bool.{true, false, cond}
-use mathlib.Core.List.{List, []}
+use mathlib.Core.Bool.{Bool, true, false, cond, not}
+use mathlib.Core.List.{List, [], _∷_}
 use lib.Dec.{ltb}
 use lib.ListN.{length}
 use lib.Seq.{sets}
-use Rattle.rules.specs.Answers.{done, badLine, longScript, shortBuffer}
+use Rattle.rules.specs.Answers.{done, notSound, badLine, longScript, shortBuffer}
+use Rattle.rules.specs.Refusals.{Refusal, when, answerOf}
+use Rattle.station.specs.Sound.{countSound}
 use Rattle.table.specs.declared.stepping.Stepped.{Stepped}
 use Rattle.table.specs.Fresh.{blankTable, freshOf}
 use Rattle.script.specs.declared.words.Numeral.{Numeral}
@@ -34,6 +36,20 @@ abbrev pub startFor : Numeral → ℕ → Started
 startFor Unreadable at = notStarted badLine
 startFor (Reads count) at = startWith (freshOf count) at
 
+-- the first line names no number of stations, or one that no table has
+abbrev pub namesNone : Numeral → Bool
+namesNone Unreadable = true
+namesNone (Reads count) = false
+
+abbrev pub namesBad : Numeral → Bool
+namesBad Unreadable = false
+namesBad (Reads count) = not (countSound count)
+
+abbrev pub startRefusals : List ℕ → List Refusal
+startRefusals script =
+    let first = stationsOf (lineAt script 0) in
+    when (ltb mostBytes (length script)) longScript ∷ when (namesNone first) badLine ∷ when (namesBad first) notSound ∷ []
+
 -- refused by 13, 12, 1
 unfoldable pub startedOf : List ℕ → Started
 startedOf script = cond (ltb mostBytes (length script)) (notStarted longScript) (startFor (stationsOf (lineAt script 0)) (pastLine script 0))
@@ -46,12 +62,15 @@ answerLine answer = says 0 answer 0
 abbrev pub stepRoom : ℕ
 stepRoom = 64
 
+abbrev pub putRefusals : List ℕ → List Refusal
+putRefusals out = when (ltb (length out) stepRoom) shortBuffer ∷ []
+
 -- refused by 14: then no byte is put
 abbrev pub answerPut : ℕ → List ℕ → List ℕ
 answerPut answer out = cond (ltb (length out) stepRoom) [] (answerLine answer)
 
 abbrev pub putOf : ℕ → List ℕ → Put
-putOf answer out = record { answer = cond (ltb (length out) stepRoom) shortBuffer done; result = length (answerPut answer out) }
+putOf answer out = record { answer = answerOf (putRefusals out); result = length (answerPut answer out) }
 
 pub record PutsAnswer (answer : ℕ) (out : List ℕ) (r : Put) (later : List ℕ) : Type 0 where
   pub put : r ≡ putOf answer out
