@@ -99,38 +99,47 @@ fn time_receiving(random: &mut Random) {
     print_row("bytes received at a station of 16", times);
 }
 
+/// Runs as short as a script makes them, and longer: what a step costs depends on it.
 fn time_steps(random: &mut Random) {
     for count in [2, 4, 8, 16] {
-        // so long that no processor learns it by heart
-        let codes = steps(random, count, 20_000);
-        let mut told = [vec![0u64; 100_000], vec![0u64; 100_000]];
-        let done =
-            [proved::run(count, &codes, &mut told[0]), table::run(count, &codes, &mut told[1])];
-        assert_eq!((done[0], &told[0]), (done[1], &told[1]));
-        let [first, second] = &mut told;
-        let times = timed(
-            codes.len() / 3,
-            || {
-                black_box(proved::run(count, black_box(&codes), first));
-            },
-            || {
-                black_box(table::run(count, black_box(&codes), second));
-            },
-        );
-        print_row(&format!("a step in a run of 20,000 on a table of {count}"), times);
-        let codes = &codes[..12_000];
-        assert_eq!(proved::last_result(count, codes), table::last_result(count, codes));
-        let times = timed(
-            codes.len() / 3,
-            || {
-                black_box(proved::last_result(count, black_box(codes)));
-            },
-            || {
-                black_box(table::last_result(count, black_box(codes)));
-            },
-        );
-        print_row(&format!("a step by value on a table of {count}, tested before each"), times);
+        for (length, name) in [(1024, "1,024"), (4000, "4,000"), (20_000, "20,000")] {
+            let codes = steps(random, count, length);
+            time_run(count, &codes, &format!("a step in a run of {name} on a table of {count}"));
+        }
+        time_by_value(count, &steps(random, count, 4000));
     }
+}
+
+fn time_run(count: u64, codes: &[u64], name: &str) {
+    let room = codes.len() / 3 * 5;
+    let mut told = [vec![0u64; room], vec![0u64; room]];
+    let done = [proved::run(count, codes, &mut told[0]), table::run(count, codes, &mut told[1])];
+    assert_eq!((done[0], &told[0]), (done[1], &told[1]));
+    let [first, second] = &mut told;
+    let times = timed(
+        codes.len() / 3,
+        || {
+            black_box(proved::run(count, black_box(codes), first));
+        },
+        || {
+            black_box(table::run(count, black_box(codes), second));
+        },
+    );
+    print_row(name, times);
+}
+
+fn time_by_value(count: u64, codes: &[u64]) {
+    assert_eq!(proved::last_result(count, codes), table::last_result(count, codes));
+    let times = timed(
+        codes.len() / 3,
+        || {
+            black_box(proved::last_result(count, black_box(codes)));
+        },
+        || {
+            black_box(table::last_result(count, black_box(codes)));
+        },
+    );
+    print_row(&format!("a step by value on a table of {count}, tested before each"), times);
 }
 
 /// What a program prints of a script.
