@@ -1,8 +1,9 @@
 -- What each rule comes to, by what is held and shown and by its test. Assumes nothing.
-use Prim.Native.Nat.{ℕ, _+_, min}
+use Prim.Native.Nat.{ℕ, _+_, _-_, min}
 use mathlib.Core.Path.{_≡_}
 use mathlib.Core.Bool.{Bool, true, false, _&&_}
 use lib.Dec.{eqb, ltb, leb}
+use Rattle.rules.specs.declared.clocks.SourceClock.{SourceClock}
 use Rattle.rules.specs.declared.held.Slot.{Slot}
 use Rattle.rules.specs.declared.held.Token.{Token}
 use Rattle.rules.specs.declared.held.HeldSlot.{HeldSlot}
@@ -12,9 +13,9 @@ use Rattle.rules.specs.declared.held.HeldToken.the-variants.{NoToken, On
 use Rattle.rules.specs.declared.message.Message.{Message}
 use Rattle.rules.specs.declared.side.Side.{Side}
 use Rattle.rules.specs.Limits.{lastClock}
-use Rattle.rules.specs.Clocks.{destinationNext}
-use Rattle.rules.specs.Side.{putValue, putDestination, putSlot, putToken}
-use Rattle.rules.specs.Rules.{acts, rests, agree, fillBy, dropSlotBy, openSlotBy, dropTokenBy, makeTokenBy, give}
+use Rattle.rules.specs.Clocks.{sourceNext, destinationNext}
+use Rattle.rules.specs.Side.{putValue, putSource, putDestination, putSlot, putToken}
+use Rattle.rules.specs.Rules.{acts, rests, agree, fillBy, dropSlotBy, openSlotBy, dropTokenBy, makeTokenBy}
 
 -- what is held or shown is a variable of its own, so that putting its case for it leaves the side alone
 module _ (x : Side) where
@@ -38,9 +39,10 @@ module _ (x : Side) where
       → rests x ≡ makeTokenBy x h
   make-other eh e = rw (eh, e)
 
-  pub make-acts : {h : HeldSlot} {l : Slot} → h ≡ OneSlot l → (eqb (l .source .0) (x .source .0) && ltb (x .source .0) lastClock) ≡ true
-      → acts (min (x .value) (l .quantity)) (give x l (min (x .value) (l .quantity))) ≡ makeTokenBy x h
-  make-acts eh e = rw (eh, e)
+  pub make-acts : {h : HeldSlot} {l : Slot} {q : ℕ} {next : SourceClock} → h ≡ OneSlot l → (eqb (l .source .0) (x .source .0) && ltb (x .source .0) lastClock) ≡ true
+      → q ≡ min (x .value) (l .quantity) → next ≡ sourceNext (x .source)
+      → acts q (putSource (putToken (putValue x (x .value - q)) (OneToken (record { source = l .source; destination = l .destination; quantity = q }))) next) ≡ makeTokenBy x h
+  make-acts eh e f g = rw (f, g, eh, e)
 
 module _ (x : Side) (m : Message) where
   pub drop-no-slot : {h : HeldSlot} → h ≡ NoSlot → rests x ≡ dropSlotBy x m h

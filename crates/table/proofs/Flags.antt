@@ -43,11 +43,11 @@ lowest-flag pool =
     first-same (λ p. eqb (getD (flagsOf pool) p 0) 0) (λ p. isEmpty (placeIn pool p))
     (λ p. ap (λ (n : ℕ). eqb n 0) (flag-at pool p) ∙ flag-test (placeIn pool p)) mostPlaces 0
 
--- one number more is as it should be
-pub flag-on : (taken flags : List ℕ) (p v : ℕ) → p < length taken → ((q : ℕ) → q < p → getD taken q 0 ≡ getD flags q 0) → v ≡ getD flags p 0
-    → (q : ℕ) → q < p + 1 → getD (set taken p v) q 0 ≡ getD flags q 0
-flag-on taken flags p v h old e q l = by (ltb q p) refl
+-- a row that is filled from the front has one more as it should be
+pub one-more : {A : Type 0} (d : A) (row whole : List A) (p : ℕ) (v : A) → p < length row → ((q : ℕ) → q < p → getD row q d ≡ getD whole q d)
+    → v ≡ getD whole p d → (q : ℕ) → q < p + 1 → getD (set row p v) q d ≡ getD whole q d
+one-more d row whole p v h old e q l = by (ltb q p) refl
   where
-    by : (b : Bool) → ltb q p ≡ b → getD (set taken p v) q 0 ≡ getD flags q 0
-    by true z = let less = ltb-true q p z in getD-set-other taken p q v 0 (λ f. omega arith) ∙ old q less
-    by false z = let most = ltb-false q p z in let same : q ≡ p = omega arith in rw same (getD-set-same taken p v 0 h ∙ e)
+    by : (b : Bool) → ltb q p ≡ b → getD (set row p v) q d ≡ getD whole q d
+    by true z = let less = ltb-true q p z in getD-set-other row p q v d (λ f. omega arith) ∙ old q less
+    by false z = let most = ltb-false q p z in let same : q ≡ p = omega arith in rw same (getD-set-same row p v d h ∙ e)

@@ -39,7 +39,7 @@ use Rattle.table.specs.Table.{mostPlaces, below, stationAt, waitingAt, l
 use Rattle.table.specs.Sound.{tableSound}
 use Rattle.table.specs.Steps.{answeredStep, did, sent, stepOf}
 use Rattle.table.specs.Running.{askedStep}
-use Rattle.table.specs.Looking.{placeLookedAt, seatLookedAt, lookedAt, sideSeen, flagsOf, freeFor}
+use Rattle.table.specs.Looking.{placeLookedAt, seatLookedAt, lookedAt, flagsOf, freeFor}
 use Rattle.table.specs.Planning.{planned, stockDone, stockPlan, messageBy, placePlan, sendAnswer, sendPlan, sideDone, sidePlan, actedIn, deliverPlan, losePlan, planAt, changed}
 use Rattle.table.proofs.Flags.{lowest-flag}
 use Rattle.table.proofs.Puts.{seat-of}
@@ -128,32 +128,30 @@ module _ (t : Table) (sound : tableSound t ≡ true) where
           (stock-by t k j (answerOf (when (not (amountSound amount)) badAmount ∷ [])) (s .value) (s .intake) (drawDone (s .value) (s .intake) amount) refl)
 
   -- what a send that is not refused has passed
-  send-message : (from to p : ℕ) → sendAnswer from to (t .count) p ≡ 0 → let l = lookedAt from to (ltb p mostPlaces) in
-      messageBy from to (sideSeen l (stationAt t (l .station))) ≡ messageFor (stationAt t from) to
+  send-message : (from to p : ℕ) → sendAnswer from to (t .count) p ≡ 0 → let l = lookedAt from to in
+      messageBy from to (sideFor (stationAt t (l .station)) (l .peer)) ≡ messageFor (stationAt t from) to
   send-message from to p e =
       let one = passed (not (ltb from (t .count) && ltb to (t .count))) 1 e in
-      let two = passed (eqb from to) 2 (one .1) in
-      let three = passed (not (ltb p mostPlaces)) 5 (two .1) in
       let ends = both-hold (ltb from (t .count)) (ltb to (t .count)) (not-false _ (one .0)) in
       let h = ltb-true from (t .count) (ends .0) in
       let g = ltb-true to (t .count) (ends .1) in
-      rw (index from h, index to g, not-false (ltb p mostPlaces) (three .0), seat-of whole from h .number)
+      rw (index from h, index to g, seat-of whole from h .number)
 
-  send-placed : (from to : ℕ) → let p = lowestEmpty (t .pool) in let l = lookedAt from to (ltb p mostPlaces) in
-      stepped t (l .station) (l .peer) (sendPlan from to (t .count) (sideSeen l (stationAt t (l .station))) p) ≡ stepOf t (Send from to)
+  send-placed : (from to : ℕ) → let p = lowestEmpty (t .pool) in let l = lookedAt from to in
+      stepped t (l .station) (l .peer) (sendPlan from to (t .count) (sideFor (stationAt t (l .station)) (l .peer)) p) ≡ stepOf t (Send from to)
   unfolding stepOf
   send-placed from to =
       let p = lowestEmpty (t .pool) in
       rw sound (send-by t _ _ (sendAnswer from to (t .count) p) p _ _ (send-message from to p))
 
-  deliver-placed : (p : ℕ) → let v = waitingAt t (below p mostPlaces) in let l = seatLookedAt (OneStep (Deliver p)) v mostPlaces in
-      stepped t (l .station) (l .peer) (deliverPlan p v (sideSeen l (stationAt t (l .station)))) ≡ stepOf t (Deliver p)
+  deliver-placed : (p : ℕ) → let v = waitingAt t (below p mostPlaces) in let l = seatLookedAt (OneStep (Deliver p)) v in
+      stepped t (l .station) (l .peer) (deliverPlan p v (sideFor (stationAt t (l .station)) (l .peer))) ≡ stepOf t (Deliver p)
   unfolding stepOf takenOf
   deliver-placed p = by (ltb p mostPlaces) (waitingAt t p) refl refl
     where
       by : (b : Bool) (v : Waiting) → ltb p mostPlaces ≡ b → waitingAt t p ≡ v → let v = waitingAt t (below p mostPlaces) in
-          let l = seatLookedAt (OneStep (Deliver p)) v mostPlaces in
-          stepped t (l .station) (l .peer) (deliverPlan p v (sideSeen l (stationAt t (l .station)))) ≡ stepOf t (Deliver p)
+          let l = seatLookedAt (OneStep (Deliver p)) v in
+          stepped t (l .station) (l .peer) (deliverPlan p v (sideFor (stationAt t (l .station)) (l .peer))) ≡ stepOf t (Deliver p)
       by false v e f = rw (sound, e)
       by true Empty e f = rw (sound, e, f)
       by true (One m) e f =
@@ -175,8 +173,8 @@ module _ (t : Table) (sound : tableSound t ≡ true) where
 
   -- whatever is asked for, by what it looked up
   pub placed : (asked : Asked) → let v = waitingAt t (below (placeLookedAt asked) mostPlaces) in let free = freeFor asked (flagsOf (t .pool)) in
-      let l = seatLookedAt asked v free in
-      stepped t (l .station) (l .peer) (planAt (t .count) asked (stationAt t (l .station) .intake) (sideSeen l (stationAt t (l .station))) v free) ≡ askedStep t asked
+      let l = seatLookedAt asked v in
+      stepped t (l .station) (l .peer) (planAt (t .count) asked (stationAt t (l .station) .intake) (sideFor (stationAt t (l .station)) (l .peer)) v free) ≡ askedStep t asked
   placed NoStep = refl
   placed (OneStep (Add k amount)) = add-placed k amount _
   placed (OneStep (Draw k amount)) = draw-placed k amount _

@@ -3,6 +3,7 @@ pub mod Tables
 pub mod Plans
 pub mod Fives
 pub mod Flags
+pub mod Held
 pub mod Rests
 pub mod Looks
 pub mod InPlace

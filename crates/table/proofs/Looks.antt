@@ -38,23 +38,23 @@ pub record There (l : Looked) : Type 0 where
   pub station : l .station < mostStations
   pub peer : l .peer < mostStations
 
-looked-there : (station peer : ℕ) (cells : Bool) → There (lookedAt station peer cells)
-looked-there station peer cells = record { station = below-lt station mostStations (omega arith); peer = below-lt peer mostStations (omega arith) }
+looked-there : (station peer : ℕ) → There (lookedAt station peer)
+looked-there station peer = record { station = below-lt station mostStations (omega arith); peer = below-lt peer mostStations (omega arith) }
 
 ends-there : (w : Waiting) → There (endsOf w)
-ends-there Empty = looked-there 0 0 false
-ends-there (One m) = looked-there (m .to) (m .from) true
+ends-there Empty = looked-there 0 0
+ends-there (One m) = looked-there (m .to) (m .from)
 
-seat-by : (asked : Asked) (w : Waiting) (free : ℕ) → There (seatLookedAt asked w free)
-seat-by NoStep w free = looked-there 0 0 false
-seat-by (OneStep (Add k amount)) w free = looked-there k 0 false
-seat-by (OneStep (Draw k amount)) w free = looked-there k 0 false
-seat-by (OneStep (Send from to)) w free = looked-there from to (ltb free mostPlaces)
-seat-by (OneStep (Deliver p)) w free = ends-there w
-seat-by (OneStep (Lose p)) w free = looked-there 0 0 false
+seat-by : (asked : Asked) (w : Waiting) → There (seatLookedAt asked w)
+seat-by NoStep w = looked-there 0 0
+seat-by (OneStep (Add k amount)) w = looked-there k 0
+seat-by (OneStep (Draw k amount)) w = looked-there k 0
+seat-by (OneStep (Send from to)) w = looked-there from to
+seat-by (OneStep (Deliver p)) w = ends-there w
+seat-by (OneStep (Lose p)) w = looked-there 0 0
 
-pub seat-there : {l : Looked} (asked : Asked) (w : Waiting) (free : ℕ) → l ≡ seatLookedAt asked w free → There l
-seat-there asked w free e = rw e (seat-by asked w free)
+pub seat-there : {l : Looked} (asked : Asked) (w : Waiting) → l ≡ seatLookedAt asked w → There l
+seat-there asked w e = rw e (seat-by asked w)
 
 -- a plan that is refused changes nothing
 by-plan : (n : ℕ) (p : Plan) → (n ≡ 0 → InPool (p .change)) → InPool (planned n p .change)

@@ -24,14 +24,14 @@ use Rattle.table.specs.declared.table.Table.{Table}
 use Rattle.table.specs.Table.{waitingAt}
 use Rattle.table.specs.Sound.{tableSound}
 use Rattle.table.specs.Steps.{answeredStep, delivered, stepRefusals, stepDone, stepOf}
-use Rattle.table.specs.Running.{numbersFor, stepNumbers, tells, askedIn, toldBy, leftBy, stepsIn, ranOf, toldOf, Runs, reportOf}
+use Rattle.table.specs.Running.{numbersFor, stepNumbers, tells, askedIn, toldBy, leftBy, stepsIn, ranOf, toldOf, Runs, reportOf, ranBy}
 
 pub ran-refused : (t : Table) (codes told : List ℕ) → tableSound t ≡ false → Runs t codes told (record { answer = 1; result = 0; table = t }) told
 unfolding ranOf toldOf
 ran-refused t codes told e = record { ran = rw e; lent = rw e }
 
-pub ran-done : (t : Table) (codes told : List ℕ) {steps : ℕ} {next : Table} {later : List ℕ} → tableSound t ≡ true → steps ≡ stepsIn codes told
-    → (next ≡ leftBy t (askedIn steps codes)) × (later ≡ sets told 0 (toldBy t (askedIn steps codes))) → Runs t codes told (record { answer = 0; result = steps; table = next }) later
+pub ran-done : (t : Table) (codes told : List ℕ) {steps : ℕ} {r : Ran} {later : List ℕ} → tableSound t ≡ true → steps ≡ stepsIn codes told
+    → (r ≡ ranBy t steps codes) × (later ≡ sets told 0 (toldBy t (askedIn steps codes))) → Runs t codes told r later
 unfolding ranOf toldOf
 ran-done t codes told e f g = record { ran = rw (e, g .0, f); lent = rw (e, g .1, f) }
 

@@ -10,7 +10,9 @@ use lib.Seq.{sets, drop-nil, getD-drop, length-sets}
 use Rattle.rules.specs.declared.side.Side.{Side}
 use Rattle.rules.proofs.Stores.{then}
 use Rattle.station.specs.declared.station.Station.{Station}
+use Rattle.station.specs.Side.{sideFor}
 use Rattle.station.specs.Steps.{putStock}
+use Rattle.table.specs.declared.cells.Cells.{Cells}
 use Rattle.table.specs.declared.looking.Looked.{Looked}
 use Rattle.table.specs.declared.planning.Plan.{Plan}
 use Rattle.table.specs.declared.steps.Asked.{Asked}
@@ -18,8 +20,9 @@ use Rattle.table.specs.declared.stepping.Stepped.{Stepped}
 use Rattle.table.specs.declared.table.Table.{Table}
 use Rattle.table.specs.Table.{mostPlaces, below, noStation, stationAt, waitingAt, putStation}
 use Rattle.table.specs.Sound.{tableSound}
-use Rattle.table.specs.Running.{askedBy, askedStep, tells, askedIn, toldBy, leftBy}
-use Rattle.table.specs.Looking.{placeLookedAt, seatLookedAt, sideSeen, flagsOf, freeFor}
+use Rattle.table.specs.Running.{askedBy, askedStep, tells, askedIn, toldBy, leftBy, ranBy}
+use Rattle.table.specs.Looking.{placeLookedAt, seatLookedAt, flagsOf, freeFor}
+use Rattle.table.specs.Cells.{cellsOf}
 use Rattle.table.specs.Planning.{planAt, changed}
 use Rattle.table.proofs.InPlace.{placed}
 use Rattle.table.proofs.Kept.{asked-keeps}
@@ -45,26 +48,31 @@ asked-ended : (codes : List ℕ) (steps n : ℕ) → steps ≤ n → askedFrom c
 unfolding askedIn
 asked-ended codes steps n h = let e : steps - n ≡ 0 = omega arith in rw e
 
--- where the loop stands: the table is sound, the flags are those of its pool, and what is left to do from here gives the whole
-pub record Going (codes told₀ : List ℕ) (steps : ℕ) (t₀ : Table) (told taken : List ℕ) (t : Table) (n : ℕ) : Type 0 where
+-- where the loop stands: the table is sound, the flags are those of its pool, the cells those of its stations, and what is left to do from here gives the
+-- whole
+pub record Going (codes told₀ : List ℕ) (steps : ℕ) (t₀ : Table) (told : List ℕ) (t : Table) (cells : List Cells) (taken : List ℕ) (n : ℕ) : Type 0 where
   pub count : n ≤ steps
   pub room : length told ≡ length told₀
   pub sound : tableSound t ≡ true
   pub flags : taken ≡ flagsOf (t .pool)
+  pub held : cells ≡ cellsOf (t .stations)
   pub left : leftBy t (askedFrom codes steps n) ≡ leftBy t₀ (askedIn steps codes)
   pub says : sets told (5 * n) (toldBy t (askedFrom codes steps n)) ≡ sets told₀ 0 (toldBy t₀ (askedIn steps codes))
 
-pub set-out : (codes told : List ℕ) (steps : ℕ) {taken : List ℕ} (t : Table) → tableSound t ≡ true → taken ≡ flagsOf (t .pool) → Going codes told steps t told taken t 0
-set-out codes told steps t e f =
+pub set-out : (codes told : List ℕ) (steps : ℕ) {cells : List Cells} {taken : List ℕ} (t : Table) → tableSound t ≡ true → cells ≡ cellsOf (t .stations)
+    → taken ≡ flagsOf (t .pool) → Going codes told steps t told t cells taken 0
+set-out codes told steps t e h f =
     let start : askedFrom codes steps 0 ≡ askedIn steps codes = rw (sub-zero steps) in
-    record { count = omega arith; room = refl; sound = e; flags = f; left = rw start; says = rw start }
+    record { count = omega arith; room = refl; sound = e; flags = f; held = h; left = rw start; says = rw start }
 
-module _ {codes told₀ : List ℕ} {steps : ℕ} {t₀ : Table} {told taken : List ℕ} {t : Table} {n : ℕ} (g : Going codes told₀ steps t₀ told taken t n) where
-  pub turn : {asked : Asked} (s : Stepped) {told′ taken′ : List ℕ} → n < steps
+module _ {codes told₀ : List ℕ} {steps : ℕ} {t₀ : Table} {told : List ℕ} {t : Table} {cells : List Cells} {taken : List ℕ} {n : ℕ}
+    (g : Going codes told₀ steps t₀ told t cells taken n) where
+  pub turn : {asked : Asked} (s : Stepped) {told′ : List ℕ} {cells′ : List Cells} {taken′ : List ℕ} → n < steps
       → asked ≡ askedBy (getD codes (3 * n) 0) (getD codes (3 * n + 1) 0) (getD codes (3 * n + 2) 0) → s ≡ askedStep t asked
-      → told′ ≡ sets told (5 * n) (tells s) → taken′ ≡ flagsOf (s .table .pool) → Going codes told₀ steps t₀ told′ taken′ (s .table) (n + 1)
+      → told′ ≡ sets told (5 * n) (tells s) → cells′ ≡ cellsOf (s .table .stations) → taken′ ≡ flagsOf (s .table .pool)
+      → Going codes told₀ steps t₀ told′ (s .table) cells′ taken′ (n + 1)
   unfolding leftBy toldBy
-  turn {asked} s h a d p f =
+  turn {asked} s h a d p e f =
       let rest = askedFrom codes steps (n + 1) in
       let on : askedFrom codes steps n ≡ asked ∷ rest = rw a (asked-on codes steps n h) in
       let next : 5 * n + 5 ≡ 5 * (n + 1) = omega arith in
@@ -75,17 +83,21 @@ module _ {codes told₀ : List ℕ} {steps : ℕ} {t₀ : Table} {told taken : L
         room = ap length p ∙ length-sets told (5 * n) (tells s) ∙ g .room;
         sound = rw d (asked-keeps t asked (g .sound));
         flags = f;
+        held = e;
         left = left;
         says = then told (5 * n) (5 * (n + 1)) (tells s) (toldBy (s .table) rest) _ _ p refl next ∙ says;
       }
 
-  pub ended : steps ≤ n → (t ≡ leftBy t₀ (askedIn steps codes)) × (told ≡ sets told₀ 0 (toldBy t₀ (askedIn steps codes)))
+  pub ended : steps ≤ n → (record { answer = 0; result = steps; table = t } ≡ ranBy t₀ steps codes) × (told ≡ sets told₀ 0 (toldBy t₀ (askedIn steps codes)))
   unfolding leftBy toldBy
-  ended h = let e = asked-ended codes steps n h in (rw e at (g .left), rw e at (g .says))
+  ended h =
+      let e = asked-ended codes steps n h in
+      let all : t ≡ leftBy t₀ (askedIn steps codes) = rw e at (g .left) in
+      (rw all, rw e at (g .says))
 
 -- the step that a plan is, by what was looked up for it
 pub found : (t : Table) (asked : Asked) {taken : List ℕ} {i free : ℕ} {l : Looked} {x : Side} (p : Plan) {next : Table} → tableSound t ≡ true → taken ≡ flagsOf (t .pool)
-    → i ≡ below (placeLookedAt asked) mostPlaces → free ≡ freeFor asked taken → l ≡ seatLookedAt asked (waitingAt t i) free → x ≡ sideSeen l (stationAt t (l .station))
+    → i ≡ below (placeLookedAt asked) mostPlaces → free ≡ freeFor asked taken → l ≡ seatLookedAt asked (waitingAt t i) → x ≡ sideFor (stationAt t (l .station)) (l .peer)
     → p ≡ planAt (t .count) asked (stationAt t (l .station) .intake) x (waitingAt t i) free → next ≡ changed t (l .station) (l .peer) (p .change)
     → record { answer = p .answer; result = p .result; report = p .report; table = next } ≡ askedStep t asked
 found t asked p sound flags ei ef el ex ep en = rw (en, ep, ex, el, ef, ei, flags) (placed t sound asked)

@@ -2,6 +2,7 @@ pub mod Table
 pub mod Sound
 pub mod Steps
 pub mod Running
+pub mod Cells
 pub mod Looking
 pub mod Planning
 pub mod Fresh

@@ -1,15 +1,9 @@
 -- What of a table a step looks at. An index that is too large is looked up as 0: the step is then refused, whatever stands there.
 use Prim.Native.Nat.{ℕ}
-use mathlib.Core.Bool.{Bool, true, false, cond}
 use mathlib.Core.List.{List, map}
-use lib.Dec.{ltb, eqb}
+use lib.Dec.{eqb}
 use lib.ListN.{getD}
-use Rattle.rules.specs.declared.side.Side.{Side}
-use Rattle.rules.specs.declared.held.HeldSlot.the-variants.{NoSlot}
-use Rattle.rules.specs.declared.held.HeldToken.the-variants.{NoToken}
 use Rattle.rules.specs.Limits.{mostStations}
-use Rattle.station.specs.declared.station.Station.{Station}
-use Rattle.station.specs.Side.{sideFor}
 use Rattle.table.specs.declared.looking.Looked.{Looked}
 use Rattle.table.specs.declared.pool.Place.{Place}
 use Rattle.table.specs.declared.pool.Waiting.{Waiting}
@@ -28,30 +22,23 @@ placeLookedAt (OneStep (Send from to)) = 0
 placeLookedAt (OneStep (Deliver p)) = p
 placeLookedAt (OneStep (Lose p)) = p
 
--- a station, a peer of it, and whether what the one holds for the other is looked at
-abbrev pub lookedAt : ℕ → ℕ → Bool → Looked
-lookedAt station peer cells = record { station = below station mostStations; peer = below peer mostStations; cells = cells }
+-- a station and a peer of it
+abbrev pub lookedAt : ℕ → ℕ → Looked
+lookedAt station peer = record { station = below station mostStations; peer = below peer mostStations }
 
 -- the ends of the message that waits
 abbrev pub endsOf : Waiting → Looked
-endsOf Empty = lookedAt 0 0 false
-endsOf (One m) = lookedAt (m .to) (m .from) true
+endsOf Empty = lookedAt 0 0
+endsOf (One m) = lookedAt (m .to) (m .from)
 
--- for what waits at the place that is looked at, and the lowest-numbered empty place: a send that finds none is refused without a look
-abbrev pub seatLookedAt : Asked → Waiting → ℕ → Looked
-seatLookedAt NoStep w free = lookedAt 0 0 false
-seatLookedAt (OneStep (Add k amount)) w free = lookedAt k 0 false
-seatLookedAt (OneStep (Draw k amount)) w free = lookedAt k 0 false
-seatLookedAt (OneStep (Send from to)) w free = lookedAt from to (ltb free mostPlaces)
-seatLookedAt (OneStep (Deliver p)) w free = endsOf w
-seatLookedAt (OneStep (Lose p)) w free = lookedAt 0 0 false
-
--- a side of which no more than the value is looked at
-abbrev pub bareSide : ℕ → Side
-bareSide value = record { value = value; source = record { 0 = 0 }; destination = record { 0 = 0 }; slot = NoSlot; token = NoToken }
-
-abbrev pub sideSeen : Looked → Station → Side
-sideSeen l s = cond (l .cells) (sideFor s (l .peer)) (bareSide (s .value))
+-- for what waits at the place that is looked at
+abbrev pub seatLookedAt : Asked → Waiting → Looked
+seatLookedAt NoStep w = lookedAt 0 0
+seatLookedAt (OneStep (Add k amount)) w = lookedAt k 0
+seatLookedAt (OneStep (Draw k amount)) w = lookedAt k 0
+seatLookedAt (OneStep (Send from to)) w = lookedAt from to
+seatLookedAt (OneStep (Deliver p)) w = endsOf w
+seatLookedAt (OneStep (Lose p)) w = lookedAt 0 0
 
 -- which places are taken, as numbers: 1 where a message waits, 0 where a place is empty
 abbrev pub flagOf : Waiting → ℕ

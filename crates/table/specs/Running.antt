@@ -70,11 +70,12 @@ stepsIn codes told = min (length codes / 3) (length told / 5)
 abbrev pub askedOf : List ℕ → List ℕ → List Asked
 askedOf codes told = askedIn (stepsIn codes told) codes
 
+abbrev pub ranBy : Table → ℕ → List ℕ → Ran
+ranBy t steps codes = record { answer = done; result = steps; table = leftBy t (askedIn steps codes) }
+
 -- 1 where the table is not sound, and then nothing is done and nothing told. Result: how many steps
 unfoldable pub ranOf : Table → List ℕ → List ℕ → Ran
-ranOf t codes told =
-    cond (tableSound t) (record { answer = done; result = stepsIn codes told; table = leftBy t (askedOf codes told) })
-    (record { answer = notSound; result = 0; table = t })
+ranOf t codes told = cond (tableSound t) (ranBy t (stepsIn codes told) codes) (record { answer = notSound; result = 0; table = t })
 
 unfoldable pub toldOf : Table → List ℕ → List ℕ → List ℕ
 toldOf t codes told = cond (tableSound t) (sets told 0 (toldBy t (askedOf codes told))) told

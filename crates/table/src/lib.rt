@@ -1,4 +1,5 @@
 // A whole table of stations with the messages waiting between them, driven by steps.
+mod cells;
 pub mod fresh;
 pub mod lent;
 mod looking;

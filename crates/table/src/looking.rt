@@ -7,11 +7,10 @@ use crate::steps::Asked;
 use crate::steps::Step;
 use crate::taken::lowest_empty;
 
-// A station, a peer of it, and whether what the one holds for the other is looked at.
+// A station and a peer of it.
 pub struct Looked {
     pub station: usize,
     pub peer: usize,
-    pub cells: bool,
 }
 
 fn index_below(n: u64, limit: usize) -> usize
@@ -20,13 +19,12 @@ fn index_below(n: u64, limit: usize) -> usize
     if n < limit as u64 { n as usize } else { 0 }
 }
 
-fn look(station: u64, peer: u64, cells: bool) -> Looked
-    ensures { λ r. ⌜ r ≡ lookedAt station peer cells ⌝ }
+fn look(station: u64, peer: u64) -> Looked
+    ensures { λ r. ⌜ r ≡ lookedAt station peer ⌝ }
 {
     Looked {
         station: index_below(station, 16),
         peer: index_below(peer, 16),
-        cells,
     }
 }
 
@@ -35,9 +33,9 @@ fn ends_of(waiting: Waiting) -> Looked
     ensures { λ r. ⌜ r ≡ endsOf waiting ⌝ }
 {
     let Waiting::One(m) = waiting else {
-        return look(0, 0, false);
+        return look(0, 0);
     };
-    look(m.to as u64, m.from as u64, true)
+    look(m.to as u64, m.from as u64)
 }
 
 // The place that a step looks at.
@@ -56,19 +54,19 @@ pub(crate) fn place_looked_at(asked: Asked) -> usize
     }
 }
 
-// The station and the peer that a step looks at, for what waits at the place that it looks at, and the lowest-numbered empty place.
-pub(crate) fn seat_looked_at(asked: Asked, waiting: Waiting, free: usize) -> Looked
-    ensures { λ r. ⌜ r ≡ seatLookedAt asked waiting free ⌝ }
+// The station and the peer that a step looks at, for what waits at the place that it looks at.
+pub(crate) fn seat_looked_at(asked: Asked, waiting: Waiting) -> Looked
+    ensures { λ r. ⌜ r ≡ seatLookedAt asked waiting ⌝ }
 {
     let Asked::OneStep(step) = asked else {
-        return look(0, 0, false);
+        return look(0, 0);
     };
     match step {
-        Step::Add(k, _) => look(k, 0, false),
-        Step::Draw(k, _) => look(k, 0, false),
-        Step::Send(from, to) => look(from, to, free < 64),
+        Step::Add(k, _) => look(k, 0),
+        Step::Draw(k, _) => look(k, 0),
+        Step::Send(from, to) => look(from, to),
         Step::Deliver(_) => ends_of(waiting),
-        Step::Lose(_) => look(0, 0, false),
+        Step::Lose(_) => look(0, 0),
     }
 }
 

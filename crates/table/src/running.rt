@@ -7,10 +7,12 @@ ghost use lib.ListN.{length};
 ghost use lib.Seq.{sets};
 ghost use Rattle.rules.specs.Limits.{mostStations};
 ghost use Rattle.rules.specs.Report.{rulesOf};
-ghost use Rattle.station.specs.Side.{sideFor, putSide};
-ghost use Rattle.table.specs.Looking.{bareSide};
-ghost use Rattle.table.specs.Running.{askedBy, askedIn, leftBy, toldBy, Runs};
+ghost use Rattle.station.specs.Side.{putSide};
+ghost use Rattle.table.specs.Running.{askedBy, askedIn, ranBy, toldBy, Runs};
 ghost use Rattle.table.specs.Sound.{tableSound};
+use crate::cells::cells_for;
+use crate::cells::cells_of;
+use crate::cells::side_by;
 use crate::looking::free_for;
 use crate::looking::place_looked_at;
 use crate::looking::seat_looked_at;
@@ -24,10 +26,6 @@ use crate::table::Table;
 use crate::taken::flag_of;
 use crate::taken::flags_of;
 use rules::answers;
-use rules::clocks::DestinationClock;
-use rules::clocks::SourceClock;
-use rules::held::HeldSlot;
-use rules::held::HeldToken;
 use rules::report::Report;
 use rules::report::rules_of;
 use rules::side::Side;
@@ -63,26 +61,7 @@ fn asked_by(kind: u64, a: u64, b: u64) -> Asked
     Asked::NoStep
 }
 
-// The side of a station that is turned to station j, and a station with that side put anew.
-fn side_to(s: Station, j: usize) -> Side
-    requires { ⌜ j < mostStations ⌝ }
-    ensures { λ r. ⌜ r ≡ sideFor s j ⌝ }
-{
-    let slots = s.slots[j];
-    let slot = slots.held;
-    let tokens = s.tokens[j];
-    let token = tokens.held;
-    let source = s.source;
-    let destination = s.destination;
-    Side {
-        value: s.value,
-        source,
-        destination,
-        slot,
-        token,
-    }
-}
-
+// A station with another side to station j.
 fn with_side(s: Station, j: usize, x: Side) -> Station
     requires { ⌜ j < mostStations ⌝ }
     ensures { λ r. ⌜ r ≡ putSide s j x ⌝ }
@@ -100,18 +79,6 @@ fn with_side(s: Station, j: usize, x: Side) -> Station
     next
 }
 
-fn bare_side(value: u64) -> Side
-    ensures { λ r. ⌜ r ≡ bareSide value ⌝ }
-{
-    Side {
-        value,
-        source: SourceClock(0),
-        destination: DestinationClock(0),
-        slot: HeldSlot::NoSlot,
-        token: HeldToken::NoToken,
-    }
-}
-
 // Five numbers.
 fn put_told(told: &mut [u64], at: usize, answer: u8, result: u64, report: Report)
     requires { ⌜ at + 5 ≤ length (now told) ⌝ }
@@ -125,37 +92,33 @@ fn put_told(told: &mut [u64], at: usize, answer: u8, result: u64, report: Report
 }
 
 // The loop holds the table: a table is large, and a call copies what it is given. So no call in the loop is given the table, and each step changes its one
-// station or place right here. A station is copied out only where its cells are looked at.
-fn run_sound(t: Table, codes: &[u64], told: &mut [u64], steps: usize) -> Table
+// station or place right here. Which places are taken and what the stations hold is kept beside it, to be looked at without a copy.
+fn run_sound(t: Table, codes: &[u64], told: &mut [u64], steps: usize) -> Ran
     requires { ⌜ (tableSound t ≡ true) × (3 * steps ≤ length (now codes)) × (5 * steps ≤ length (now told)) ⌝ }
-    ensures { λ r. ⌜ (r ≡ leftBy t (askedIn steps (now (codes .entry)))) × (now (told .exit) ≡ sets (now (told .entry)) 0 (toldBy t (askedIn steps (now (codes .entry))))) ⌝ }
+    ensures { λ r. ⌜ (r ≡ ranBy t steps (now (codes .entry))) × (now (told .exit) ≡ sets (now (told .entry)) 0 (toldBy t (askedIn steps (now (codes .entry))))) ⌝ }
 {
-    let pool = t.pool;
+    let mut table = t;
+    let stations = table.stations;
+    let all = cells_of(stations);
+    let mut cells = all.cells;
+    let pool = table.pool;
     let flags = flags_of(pool);
     let mut taken = flags.taken;
-    let mut table = t;
     let mut n: usize = 0;
     while n < steps {
         let asked = asked_by(codes[3 * n], codes[3 * n + 1], codes[3 * n + 2]);
         let place = table.pool[place_looked_at(asked)];
         let waiting = place.waiting;
         let free = free_for(asked, &taken);
-        let seat = seat_looked_at(asked, waiting, free);
+        let seat = seat_looked_at(asked, waiting);
         let k = seat.station;
         let j = seat.peer;
-        let x = if seat.cells {
-            side_to(table.stations[k], j)
-        } else {
-            bare_side(table.stations[k].value)
-        };
-        let plan = plan_at(
-            table.count,
-            asked,
-            table.stations[k].intake,
-            x,
-            waiting,
-            free,
-        );
+        let source = table.stations[k].source.0;
+        let destination = table.stations[k].destination.0;
+        let value = table.stations[k].value;
+        let intake = table.stations[k].intake;
+        let x = side_by(value, source, destination, cells[16 * k + j]);
+        let plan = plan_at(table.count, asked, intake, x, waiting, free);
         let change = plan.change;
         match change {
             Change::Nothing => {}
@@ -165,6 +128,7 @@ fn run_sound(t: Table, codes: &[u64], told: &mut [u64], steps: usize) -> Table
             }
             Change::AtSide(side) => {
                 table.stations[k] = with_side(table.stations[k], j, side);
+                cells[16 * k + j] = cells_for(table.stations[k], j);
             }
             Change::AtPlace(p, w) => {
                 table.pool[p] = Place { waiting: w };
@@ -175,7 +139,11 @@ fn run_sound(t: Table, codes: &[u64], told: &mut [u64], steps: usize) -> Table
         put_told(told, 5 * n, plan.answer, plan.result, report);
         n = n + 1;
     }
-    table
+    Ran {
+        answer: answers::DONE,
+        result: steps as u64,
+        table,
+    }
 }
 
 fn smaller(a: usize, b: usize) -> usize
@@ -196,9 +164,5 @@ pub fn run(t: Table, codes: &[u64], told: &mut [u64]) -> Ran
         };
     }
     let steps = smaller(codes.len() / 3, told.len() / 5);
-    Ran {
-        answer: answers::DONE,
-        result: steps as u64,
-        table: run_sound(t, codes, told, steps),
-    }
+    run_sound(t, codes, told, steps)
 }

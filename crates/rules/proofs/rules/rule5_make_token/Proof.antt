@@ -47,8 +47,7 @@ acts-with-requires c κs = search needs
 returns-3 : tie.Need-returns-3
 returns-3 c =
     c .acts-with .ensures
-    ∙ rw (c .before .before .before .before .before .smaller .ensures, c .before .before .next .ensures)
-    (make-acts (c .before .before .before .before .before .before .before .before .before .before .before .before .before .before .args .x) (c .before .before .before .before .before .before .before .before .before .before .before .before .shown .given .1) (both-tests (c .before .before .before .before .before .before .before .before .equals .ensures) (c .before .before .before .before .before .before .before .before-end .ensures) (not-false _ (c .before .before .before .before .before .before .if1 .left))))
+    ∙ make-acts (c .before .before .before .before .before .before .before .before .before .before .before .before .before .before .args .x) (c .before .before .before .before .before .before .before .before .before .before .before .before .shown .given .1) (both-tests (c .before .before .before .before .before .before .before .before .equals .ensures) (c .before .before .before .before .before .before .before .before-end .ensures) (not-false _ (c .before .before .before .before .before .before .if1 .left))) (c .before .before .before .before .before .smaller .ensures) (c .before .before .next .ensures)
 
 pub rule5-make-token-spec : {M : Type 1} → statement M
 rule5-make-token-spec =

@@ -5,7 +5,7 @@ use borrow.Author.Needs.{needs}
 use lib.ListN.{length, getD, length-set}
 use lib.Seq.{ext-getD}
 use Rattle.table.specs.Looking.{flagsOf}
-use Rattle.table.proofs.Flags.{flag-at, flag-on, length-flags}
+use Rattle.table.proofs.Flags.{flag-at, one-more, length-flags}
 use Rattle.table.proofs.taken.flags_of.Statement.{statement}
 use Rattle.table.proofs.taken.flags_of.Tie as tie
 
@@ -42,7 +42,7 @@ loop-again c =
     let pool = c .before .before .before .before .args .t1 in (
       omega arith,
       length-set (at .taken) (at .p) _ ∙ at .inv .1,
-      flag-on (at .taken) (flagsOf pool) (at .p) _ (omega arith) (at .inv .2) (c .flag-of .ensures ∙ sym (flag-at pool (at .p))),
+      one-more 0 (at .taken) (flagsOf pool) (at .p) _ (omega arith) (at .inv .2) (c .flag-of .ensures ∙ sym (flag-at pool (at .p))),
     )
 
 returns : tie.Need-returns Inv-loop μ-loop
