@@ -28,7 +28,7 @@ use Rattle.record.specs.Layout.{bytesOf}
 use Rattle.record.specs.Writing.{Writes, writeAnswer}
 use Rattle.record.specs.AtStation.{writeForAnswer, receiveBytesOf}
 use Rattle.quynhabet.specs.declared.told.Told.{Told}
-use Rattle.quynhabet.specs.Exports.{Given, Gives, plainTold, toldOf, outcomeBy, refusedBy, writtenBy, readingBy, freshBy, addBy, drawBy, showBy, receiveBy, readBy, writeBy}
+use Rattle.quynhabet.specs.Exports.{Given, Gives, plainTold, toldOf, outcomeBy, refusedBy, writtenBy, readingBy, checkOf, freshBy, addBy, drawBy, showBy, receiveBy, readBy, writeBy}
 use Rattle.quynhabet.specs.Layout.{numbersOf, stationOf, stationFits, messageNumbers, messageOf, messageFits}
 use Rattle.quynhabet.proofs.Giving.{kept-refused}
 use Rattle.table.specs.declared.running.Ran.{Ran}
@@ -47,7 +47,7 @@ use Rattle.table.specs.Table.{waitingAt}
 use Rattle.table.specs.Steps.{answeredStep, delivered, stepRefusals, stepDone, stepOf}
 use Rattle.table.specs.Way.{sumRefusals, summed, onTheWay, atStations}
 use Rattle.script.proofs.Refused.{answer-refused, fill-refused, start-refused}
-use Rattle.demands.specs.Demand1.{noStation, noTable, RefusedSide, RefusedStock, RefusedAs, RefusedAsTable, RefusedRan, RefusedSum, Refused, RefusedNumbers, Demand1}
+use Rattle.demands.specs.Demand1.{noStation, noTable, RefusedSide, RefusedStock, RefusedAs, RefusedAsTable, RefusedRan, RefusedSum, Refused, RefusedNumbers, RefusedTold, Demand1}
 
 -- a side and a stock: an answer that is not 0 makes a refusal of anything done
 at-side : (n : ℕ) (x : Side) (d : Taken) → d .answer ≡ done → RefusedSide x (takenBy n x d)
@@ -141,6 +141,10 @@ in-pool : (n result : ℕ) (pool changed : List Place) → let r = told n result
 in-pool zero result pool changed f = absurd (f refl)
 in-pool (suc n) result pool changed f = (refl, refl)
 
+checked : (station : List ℕ) → RefusedTold (checkOf station)
+unfolding checkOf
+checked station f = refl
+
 pub demand1 : Demand1
 unfolding takeOf takenOf addedTo drawnFrom freshOf addOf drawOf receiveOf receiveBytesOf showOf readAt ranOf toldByRun seatsTo freshBy addBy drawBy showBy receiveBy readBy writeBy
 demand1 =
@@ -161,6 +165,7 @@ demand1 =
           λ number count station.
           gives-refused _ station
           (in-numbers noStation (freshOf number count) station (at-station (freshAnswer number count) noStation _ refl));
+      quynhabet·qb-station-check = λ station. checked station;
       quynhabet·qb-station-add =
           λ station amount.
           let s = stationOf station in

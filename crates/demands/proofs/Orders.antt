@@ -25,7 +25,7 @@ use Rattle.record.specs.AtStation.{writeForRefusals, receiveBytesRefusals}
 use Rattle.record.proofs.Receiving.{read-tells, receive-bytes-tells}
 use Rattle.record.proofs.Showing.{written-tells}
 use Rattle.quynhabet.specs.declared.told.Told.{Told}
-use Rattle.quynhabet.specs.Exports.{Given, Gives, refusedBy, freshBy, addBy, drawBy, showBy, receiveBy, readBy, writeBy}
+use Rattle.quynhabet.specs.Exports.{Given, Gives, refusedBy, checkRefusals, checkOf, freshBy, addBy, drawBy, showBy, receiveBy, readBy, writeBy}
 use Rattle.quynhabet.specs.Layout.{stationOf, stationFits, messageOf, messageFits}
 use Rattle.table.specs.declared.pool.Place.{Place}
 use Rattle.table.specs.declared.running.Ran.{Ran}
@@ -57,6 +57,10 @@ orders-printed s t m x pool run bytes i j k = refl
 -- an answer that is found in a list is 0 or one of its numbers
 by-list : (rs : List Refusal) {answer : ℕ} → answer ≡ answerOf rs → OneOf answer (numbersIn rs)
 by-list rs e = rw e (answer-among rs)
+
+check-tells : (station : List ℕ) → OneOf (checkOf station .answer) (1 ∷ [])
+unfolding checkOf
+check-tells station = by-list (checkRefusals station) refl
 
 by-step : (t : Table) (step : Step) → OneOf (stepOf t step .answer) (numbersIn (stepRefusals t step))
 by-step t step = by-list (stepRefusals t step) (step-answers t step)
@@ -136,6 +140,7 @@ answers =
       add-to = λ value intake amount. by-list (addToRefusals value intake amount) (add-to-tells value intake amount);
       draw-from = λ value intake amount. by-list (drawFromRefusals value intake amount) (draw-from-tells value intake amount);
       qb-station-fresh = λ number count station. given-answer (freshBy number count station) (by-list (freshRefusals number count) (fresh-tells number count));
+      qb-station-check = λ station. check-tells station;
       qb-station-add =
           λ station amount.
           let s = stationOf station in

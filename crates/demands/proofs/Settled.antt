@@ -81,6 +81,7 @@ settled =
       record·write-message = λ s to buffer. record { promised = refl; settled = λ κ. writing _ _ _ };
       record·receive-bytes = λ s bytes. given refl;
       quynhabet·qb-station-fresh = λ number count station. record { promised = refl; settled = λ κ. giving _ };
+      quynhabet·qb-station-check = λ station. given refl;
       quynhabet·qb-station-add = λ station amount. record { promised = refl; settled = λ κ. giving _ };
       quynhabet·qb-station-draw = λ station amount. record { promised = refl; settled = λ κ. giving _ };
       quynhabet·qb-station-write = λ station to out. record { promised = refl; settled = λ κ. giving _ };

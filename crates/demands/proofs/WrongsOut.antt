@@ -17,7 +17,7 @@ use Rattle.record.specs.Layout.{bytesOf}
 use Rattle.record.specs.Reading.{fieldAt, isRecord, readAt}
 use Rattle.record.specs.AtStation.{receiveBytesOf}
 use Rattle.quynhabet.specs.Layout.{fourFits, inTurn, numbersOf, stationOf, stationFits, messageNumbers, messageOf, messageFits}
-use Rattle.quynhabet.specs.Exports.{freshBy, addBy, drawBy, receiveBy, showBy, readBy, writeBy}
+use Rattle.quynhabet.specs.Exports.{freshBy, checkOf, addBy, drawBy, receiveBy, showBy, readBy, writeBy}
 use Rattle.handshake.specs.Sums.{sumBelow}
 use Rattle.demands.specs.Wrong.{ruledOut}
 use Rattle.script.specs.Words.{numeralOf}
@@ -51,5 +51,5 @@ unfolding addOf drawOf showOf receiveOf takeOf stationSound messageSound allBelo
 wrong-parts-ruled-out = tt
 
 pub wrong-exports-ruled-out : T (ruledOut wrongExports)
-unfolding freshStation addOf drawOf receiveOf receiveBytesOf takeOf stationSound messageSound allBelow bytesOf big numberAt fieldAt isRecord readAt fourFits inTurn numbersOf stationOf stationFits messageNumbers messageOf messageFits freshBy addBy drawBy receiveBy showBy readBy writeBy
+unfolding freshStation addOf drawOf receiveOf receiveBytesOf takeOf stationSound messageSound allBelow bytesOf big numberAt fieldAt isRecord readAt fourFits inTurn numbersOf stationOf stationFits messageNumbers messageOf messageFits freshBy checkOf addBy drawBy receiveBy showBy readBy writeBy
 wrong-exports-ruled-out = tt

@@ -33,7 +33,7 @@ use Rattle.record.specs.Reading.{readOf}
 use Rattle.record.specs.Writing.{WritesGiven}
 use Rattle.record.specs.AtStation.{WritesFor, receiveBytesOf}
 use Rattle.quynhabet.specs.declared.told.Told.{Told}
-use Rattle.quynhabet.specs.Exports.{plainTold, Makes, Adds, Draws, Shows, Receives, Reads, WritesNumbers}
+use Rattle.quynhabet.specs.Exports.{plainTold, Makes, checkOf, Adds, Draws, Shows, Receives, Reads, WritesNumbers}
 use Rattle.table.specs.declared.lent.Pooled.{Pooled}
 use Rattle.table.specs.declared.lent.Told.{Told as PoolTold}
 use Rattle.table.specs.declared.running.Ran.{Ran}
@@ -114,6 +114,10 @@ RefusedPooled before r = RefusedPool before (r .told) (r .pool)
 abbrev pub RefusedNumbers : List ℕ → Told → List ℕ → Type 0
 RefusedNumbers before r after = r .answer ≢ done → (r ≡ plainTold (r .answer) 0) × (after ≡ before)
 
+-- where nothing is lent to be changed: result 0, and an empty report
+abbrev pub RefusedTold : Told → Type 0
+RefusedTold r = r .answer ≢ done → r ≡ plainTold (r .answer) 0
+
 -- a refused script hands back no run
 abbrev pub RefusedStart : Started → Type 0
 RefusedStart r = Refused (r .answer) (r .result) noRun (r .run)
@@ -155,6 +159,8 @@ pub record Demand1 : Type 0 where
   -- 1, 2: the station's numbers are as they were
   pub quynhabet·qb-station-fresh : (number count : ℕ) (station : List ℕ) (r : Told) (station′ : List ℕ)
       → Makes number count station r station′ → RefusedNumbers station r station′
+  -- 1: nothing is lent to be changed
+  pub quynhabet·qb-station-check : (station : List ℕ) → RefusedTold (checkOf station)
   -- 1, 4, 5, 10: the station's numbers are as they were
   pub quynhabet·qb-station-add : (station : List ℕ) (amount : ℕ) (r : Told) (station′ : List ℕ)
       → Adds station amount r station′ → RefusedNumbers station r station′

@@ -15,7 +15,7 @@ use Rattle.record.specs.Reading.{readRefusals, readOf}
 use Rattle.record.specs.Writing.{writeRefusals, WritesGiven}
 use Rattle.record.specs.AtStation.{writeForRefusals, WritesFor, receiveBytesRefusals, receiveBytesOf}
 use Rattle.quynhabet.specs.declared.told.Told.{Told}
-use Rattle.quynhabet.specs.Exports.{Makes, Adds, Draws, Shows, Receives, Reads, WritesNumbers}
+use Rattle.quynhabet.specs.Exports.{Makes, checkRefusals, checkOf, Adds, Draws, Shows, Receives, Reads, WritesNumbers}
 use Rattle.table.specs.declared.pool.Place.{Place}
 use Rattle.table.specs.declared.running.Ran.{Ran}
 use Rattle.table.specs.declared.steps.Step.the-variants.{Add, Draw, Send, Deliver, Lose}
@@ -75,6 +75,8 @@ orders s t m x pool run bytes i j k =
     ∷ order (startRefusals bytes) (13 ∷ 12 ∷ 1 ∷ [])
     ∷ order (putRefusals bytes) (14 ∷ [])
     ∷ order (fillRefusals run i) (1 ∷ 14 ∷ [])
+    -- whether a station's numbers are sound
+    ∷ order (checkRefusals bytes) (1 ∷ [])
     ∷ []
 
 -- an answer that is 0 or one of these numbers
@@ -108,6 +110,7 @@ pub record Answers : Type 0 where
   pub add-to : (value intake amount : ℕ) → OneOf (addedTo value intake amount .answer) (1 ∷ 4 ∷ 5 ∷ 10 ∷ [])
   pub draw-from : (value intake amount : ℕ) → OneOf (drawnFrom value intake amount .answer) (1 ∷ 4 ∷ [])
   pub qb-station-fresh : (number count : ℕ) (station : List ℕ) (r : Told) (station′ : List ℕ) → Makes number count station r station′ → OneOf (r .answer) (1 ∷ 2 ∷ [])
+  pub qb-station-check : (station : List ℕ) → OneOf (checkOf station .answer) (1 ∷ [])
   pub qb-station-add : (station : List ℕ) (amount : ℕ) (r : Told) (station′ : List ℕ) → Adds station amount r station′ → OneOf (r .answer) (1 ∷ 4 ∷ 5 ∷ 10 ∷ [])
   pub qb-station-draw : (station : List ℕ) (amount : ℕ) (r : Told) (station′ : List ℕ) → Draws station amount r station′ → OneOf (r .answer) (1 ∷ 4 ∷ [])
   pub qb-station-write : (station : List ℕ) (to : ℕ) (out : List ℕ) (r : Told) (out′ : List ℕ) → Shows station to out r out′ → OneOf (r .answer) (1 ∷ 2 ∷ 3 ∷ 14 ∷ [])

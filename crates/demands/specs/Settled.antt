@@ -25,7 +25,7 @@ use Rattle.station.specs.Steps.{blank, freshOf, addOf, drawOf, showOf, receiveO
 use Rattle.record.specs.Reading.{readOf}
 use Rattle.record.specs.Writing.{WritesGiven}
 use Rattle.record.specs.AtStation.{WritesFor, receiveBytesOf}
-use Rattle.quynhabet.specs.Exports.{Makes, Adds, Draws, Shows, Receives, Reads, WritesNumbers}
+use Rattle.quynhabet.specs.Exports.{Makes, checkOf, Adds, Draws, Shows, Receives, Reads, WritesNumbers}
 use Rattle.table.specs.declared.steps.Asked.{Asked}
 use Rattle.table.specs.declared.steps.Step.{Step}
 use Rattle.table.specs.declared.pool.Place.{Place}
@@ -123,6 +123,9 @@ pub record Settled : Type 2 where
   pub quynhabet·qb-station-fresh : (number count : ℕ) (station : Lent (List ℕ))
       → SettlesBoth Rattle.quynhabet.proofs.exports.qb_station_fresh.ended (λ M 𝓤. Rattle.quynhabet.proofs.exports.qb_station_fresh.clauses 𝓤)
       (λ κ. (number, (count, (station, tt)))) (λ κ e. now (e .1 .1 .0)) (λ κ. Makes number count (now station))
+  pub quynhabet·qb-station-check : (station : Lent (List ℕ))
+      → Settles Rattle.quynhabet.proofs.exports.qb_station_check.ended (λ M 𝓤. Rattle.quynhabet.proofs.exports.qb_station_check.clauses 𝓤)
+      (λ κ. (station, tt)) (λ κ r. r ≡ checkOf (now station))
   pub quynhabet·qb-station-add : (station : Lent (List ℕ)) (amount : ℕ)
       → SettlesBoth Rattle.quynhabet.proofs.exports.qb_station_add.ended (λ M 𝓤. Rattle.quynhabet.proofs.exports.qb_station_add.clauses 𝓤)
       (λ κ. (station, (amount, tt))) (λ κ e. now (e .0)) (λ κ. Adds (now station) amount)

@@ -4,12 +4,16 @@ use mathlib.Core.List.{List, [], _∷_, _++_}
 use lib.ListN.{replicate, set, take}
 use Rattle.record.specs.Layout.{bytesOf}
 use Rattle.quynhabet.specs.Layout.{numbersOf, messageNumbers}
-use Rattle.quynhabet.specs.Exports.{Given, freshBy, addBy, drawBy, receiveBy, showBy, readBy, writeBy}
+use Rattle.quynhabet.specs.Exports.{Given, freshBy, checkOf, addBy, drawBy, receiveBy, showBy, readBy, writeBy}
 use Rattle.demands.specs.Wrong.{Wrong, stocked, gave, asked, pays}
 
 -- answer, result, rules, and the first six of what was lent to be changed
 abbrev told : Given → List ℕ
 told g = (g .told .answer ∷ g .told .result ∷ g .told .rules ∷ []) ++ take 6 (g .lent)
+
+-- of a check: answer and result
+abbrev checked : List ℕ → List ℕ
+checked numbers = checkOf numbers .answer ∷ checkOf numbers .result ∷ []
 
 -- the numbers of a station with value and intake 3
 abbrev three : List ℕ
@@ -23,6 +27,11 @@ wrongExports =
     -- qb_station_fresh: leaves what was lent; hands back every number 0 where it is refused
     record { promised = told (freshBy 1 2 (sevens 134)); wrong = 0 ∷ 0 ∷ 0 ∷ 7 ∷ 7 ∷ 7 ∷ 7 ∷ 7 ∷ 7 ∷ [] }
     ∷ record { promised = told (freshBy 2 2 (sevens 134)); wrong = 2 ∷ 0 ∷ 0 ∷ 0 ∷ 0 ∷ 0 ∷ 0 ∷ 0 ∷ 0 ∷ [] }
+    -- qb_station_check: takes numbers in a slot that is not held; takes a value above the limit; refuses a sound station; tells the value
+    ∷ record { promised = checked (set three 7 1); wrong = 0 ∷ 0 ∷ [] }
+    ∷ record { promised = checked (set three 2 16000000001); wrong = 0 ∷ 0 ∷ [] }
+    ∷ record { promised = checked three; wrong = 1 ∷ 0 ∷ [] }
+    ∷ record { promised = checked three; wrong = 0 ∷ 3 ∷ [] }
     -- qb_station_add: leaves the intake; takes numbers in a slot that is not held
     ∷ record { promised = told (addBy 4 three); wrong = 0 ∷ 7 ∷ 0 ∷ 1 ∷ 2 ∷ 7 ∷ 3 ∷ 0 ∷ 0 ∷ [] }
     ∷ record { promised = told (addBy 4 (set three 7 1)); wrong = 0 ∷ 7 ∷ 0 ∷ 1 ∷ 2 ∷ 7 ∷ 7 ∷ 0 ∷ 0 ∷ [] }

@@ -1,13 +1,15 @@
 -- What each export tells, and what is then in what was lent.
 use Prim.Native.Nat.{ℕ, zero, suc, _+_}
 use mathlib.Core.Path.{_≡_}
-use mathlib.Core.Bool.{Bool, cond}
-use mathlib.Core.List.{List}
+use mathlib.Core.Bool.{Bool, cond, not, _&&_}
+use mathlib.Core.List.{List, [], _∷_}
 use lib.ListN.{length}
 use Rattle.station.specs.declared.outcome.Outcome.{Outcome}
 use Rattle.rules.specs.declared.report.Report.{Report}
 use Rattle.rules.specs.Answers.{notSound, noRecord}
+use Rattle.rules.specs.Refusals.{Refusal, when, answerOf}
 use Rattle.rules.specs.Report.{noReport, rulesOf}
+use Rattle.station.specs.Sound.{stationSound}
 use Rattle.station.specs.Steps.{freshOf, addOf, drawOf, messageFor}
 use Rattle.record.specs.declared.reading.Reading.{Reading}
 use Rattle.record.specs.Layout.{bytesOf}
@@ -57,6 +59,16 @@ freshBy number count before = outcomeBy (freshOf number count) before
 
 abbrev pub Makes : ℕ → ℕ → List ℕ → Told → List ℕ → Type 0
 Makes number count before r later = Gives (freshBy number count before) r later
+
+-- whether numbers are a sound station: refused by 1
+abbrev pub soundNumbers : List ℕ → Bool
+soundNumbers numbers = stationFits numbers && stationSound (stationOf numbers)
+
+abbrev pub checkRefusals : List ℕ → List Refusal
+checkRefusals numbers = when (not (soundNumbers numbers)) notSound ∷ []
+
+unfoldable pub checkOf : List ℕ → Told
+checkOf numbers = plainTold (answerOf (checkRefusals numbers)) 0
 
 unfoldable pub addBy : ℕ → List ℕ → Given
 addBy amount before = stepBy (addOf (stationOf before) amount) before

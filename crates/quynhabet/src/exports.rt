@@ -1,5 +1,6 @@
 // What C and Rust call. The numbers that are lent are copied, the work is done on the copy, and what comes of it is stored in one step.
-ghost use Rattle.quynhabet.specs.Exports.{Makes, Adds, Draws, Shows, Receives, Reads, WritesNumbers};
+ghost use mathlib.Core.Path.{_≡_};
+ghost use Rattle.quynhabet.specs.Exports.{Makes, checkOf, Adds, Draws, Shows, Receives, Reads, WritesNumbers};
 use crate::messages::message_fits;
 use crate::messages::message_of;
 use crate::moving::add_by;
@@ -11,8 +12,10 @@ use crate::stations::station_fits;
 use crate::stations::station_of;
 use crate::told::Told;
 use crate::told::plain_told;
+use rules::answers::DONE;
 use rules::answers::NO_RECORD;
 use rules::answers::NOT_SOUND;
+use station::sound::station_is_sound;
 
 // Makes a station with nothing in it: refused by 1, 2.
 #[no_mangle]
@@ -24,6 +27,21 @@ pub extern "C" fn qb_station_fresh(number: u64, count: u64, station: &mut [u64; 
     let later = moved.numbers;
     *station = later;
     moved.told
+}
+
+// Whether the numbers are a sound station: refused by 1.
+#[no_mangle]
+pub extern "C" fn qb_station_check(station: &[u64; 134]) -> Told
+    ensures { λ r. ⌜ r ≡ checkOf (now (station .entry)) ⌝ }
+{
+    let numbers = *station;
+    if !station_fits(numbers) {
+        return plain_told(NOT_SOUND, 0);
+    }
+    if !station_is_sound(station_of(numbers)) {
+        return plain_told(NOT_SOUND, 0);
+    }
+    plain_told(DONE, 0)
 }
 
 // Raises value and intake: refused by 1, 4, 5, 10.

@@ -7,12 +7,12 @@ ghost use lib.Seq.{sets};
 ghost use Rattle.rules.specs.Clocks.{clockSound};
 ghost use Rattle.quynhabet.specs.Layout.{fourNumbers, fourAt, fourFits, slotFour, tokenFour, slotOf, tokenOf};
 use rules::clocks::DestinationClock;
-use rules::clocks::LAST;
 use rules::clocks::SourceClock;
 use rules::held::HeldSlot;
 use rules::held::HeldToken;
 use rules::held::Slot;
 use rules::held::Token;
+use rules::limits::LAST_CLOCK;
 
 pub(crate) struct Four {
     pub present: u64,
@@ -66,7 +66,7 @@ pub(crate) fn token_four(held: HeldToken) -> Four
 pub(crate) fn clock_fits(clock: u64) -> bool
     ensures { λ r. ⌜ r ≡ clockSound clock ⌝ }
 {
-    clock <= LAST as u64
+    clock <= LAST_CLOCK as u64
 }
 
 // Numbers too wide for their field, or not 0 in what is not held, are neither a slot nor a token.

@@ -18,13 +18,14 @@ use rules::clocks::DestinationClock;
 use rules::clocks::SourceClock;
 use rules::held::HeldSlot;
 use rules::held::HeldToken;
+use rules::limits::MOST_STATIONS;
 use station::held::SlotCell;
 use station::held::TokenCell;
 use station::station::Station;
 
 pub(crate) struct Cells {
-    pub slots: [SlotCell; 16],
-    pub tokens: [TokenCell; 16],
+    pub slots: [SlotCell; MOST_STATIONS],
+    pub tokens: [TokenCell; MOST_STATIONS],
 }
 
 fn cells_fit(numbers: [u64; 134]) -> bool
@@ -32,7 +33,7 @@ fn cells_fit(numbers: [u64; 134]) -> bool
 {
     let mut fit = true;
     let mut k: usize = 0;
-    while k < 16 {
+    while k < MOST_STATIONS {
         let slot = four_at(&numbers, 6 + 4 * k);
         let token = four_at(&numbers, 70 + 4 * k);
         fit = fit & (four_fits(slot) & four_fits(token));
@@ -58,10 +59,10 @@ fn cells_of(numbers: [u64; 134]) -> Cells
     let no_token = TokenCell {
         held: HeldToken::NoToken,
     };
-    let mut slots = [no_slot; 16];
-    let mut tokens = [no_token; 16];
+    let mut slots = [no_slot; MOST_STATIONS];
+    let mut tokens = [no_token; MOST_STATIONS];
     let mut k: usize = 0;
-    while k < 16 {
+    while k < MOST_STATIONS {
         let slot = four_at(&numbers, 6 + 4 * k);
         let token = four_at(&numbers, 70 + 4 * k);
         slots[k] = SlotCell {
@@ -99,7 +100,7 @@ fn put_slots(numbers: &mut [u64], s: Station)
     ensures { λ _. ⌜ now (numbers .exit) ≡ sets (now (numbers .entry)) 6 (slotsNumbers s) ⌝ }
 {
     let mut k: usize = 0;
-    while k < 16 {
+    while k < MOST_STATIONS {
         let cell = s.slots[k];
         let held = cell.held;
         put_four(numbers, 6 + 4 * k, slot_four(held));
@@ -112,7 +113,7 @@ fn put_tokens(numbers: &mut [u64], s: Station)
     ensures { λ _. ⌜ now (numbers .exit) ≡ sets (now (numbers .entry)) 70 (tokensNumbers s) ⌝ }
 {
     let mut k: usize = 0;
-    while k < 16 {
+    while k < MOST_STATIONS {
         let cell = s.tokens[k];
         let held = cell.held;
         put_four(numbers, 70 + 4 * k, token_four(held));

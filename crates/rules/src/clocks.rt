@@ -4,9 +4,7 @@ ghost use Prim.Native.Nat.{_<_};
 ghost use lib.Dec.{ltb, eqb};
 ghost use Rattle.rules.specs.Limits.{lastClock};
 ghost use Rattle.rules.specs.Clocks.{sourceInRange, destinationInRange, sourceAbove, destinationAbove, sourceNext, destinationNext};
-
-// The last number that a clock shows.
-pub const LAST: u32 = 4294967295;
+use crate::limits::LAST_CLOCK;
 
 // Advanced when a station makes a token.
 pub struct SourceClock(pub u32);
@@ -19,7 +17,7 @@ impl SourceClock {
     pub fn in_range(self) -> bool
         ensures { λ r. ⌜ r ≡ sourceInRange self ⌝ }
     {
-        self.0 <= LAST
+        self.0 <= LAST_CLOCK
     }
 
     pub fn is_above(self, other: SourceClock) -> bool
@@ -37,7 +35,7 @@ impl SourceClock {
     pub(crate) fn before_end(self) -> bool
         ensures { λ r. ⌜ r ≡ ltb (self .0) lastClock ⌝ }
     {
-        self.0 < LAST
+        self.0 < LAST_CLOCK
     }
 
     pub(crate) fn next(self) -> SourceClock
@@ -53,7 +51,7 @@ impl DestinationClock {
     pub fn in_range(self) -> bool
         ensures { λ r. ⌜ r ≡ destinationInRange self ⌝ }
     {
-        self.0 <= LAST
+        self.0 <= LAST_CLOCK
     }
 
     pub fn is_above(self, other: DestinationClock) -> bool
@@ -71,7 +69,7 @@ impl DestinationClock {
     pub(crate) fn before_end(self) -> bool
         ensures { λ r. ⌜ r ≡ ltb (self .0) lastClock ⌝ }
     {
-        self.0 < LAST
+        self.0 < LAST_CLOCK
     }
 
     pub(crate) fn next(self) -> DestinationClock

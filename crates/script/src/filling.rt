@@ -7,6 +7,10 @@ ghost use lib.Seq.{sets};
 ghost use Rattle.script.specs.Closing.{closingRoom};
 ghost use Rattle.script.specs.Filling.{atOnce, closed, filledBy, Fills, runSound, stepped, still};
 use crate::closing::put_closing;
+use crate::limits::CLOSING_ROOM;
+use crate::limits::MOST_AT_ONCE;
+use crate::limits::MOST_BYTES;
+use crate::limits::STEP_ROOM;
 use crate::reading::read_lines;
 use crate::starting::Run;
 use crate::telling::put_told;
@@ -25,7 +29,7 @@ fn run_is_sound(run: Run) -> bool
     ensures { λ r. ⌜ r ≡ runSound run ⌝ }
 {
     let table = run.table;
-    table_is_sound(table) & (run.number <= 65536)
+    table_is_sound(table) & (run.number <= MOST_BYTES as u64)
 }
 
 // Nothing is put, and the run stays as it is.
@@ -43,8 +47,12 @@ fn stay(answer: u8, run: Run) -> Filled
 fn at_once(room: usize) -> usize
     ensures { λ r. ⌜ r ≡ atOnce room ⌝ }
 {
-    let lines = room / 64;
-    if lines < 1024 { lines } else { 1024 }
+    let lines = room / STEP_ROOM;
+    if lines < MOST_AT_ONCE {
+        lines
+    } else {
+        MOST_AT_ONCE
+    }
 }
 
 // Three numbers for each of 1,024 lines, and five for each of 1,024 steps.
@@ -114,7 +122,7 @@ pub fn fill(script: &[u8], run: Run, out: &mut [u8]) -> Filled
     if !run_is_sound(run) {
         return stay(answers::NOT_SOUND, run);
     }
-    if out.len() < 2048 {
+    if out.len() < CLOSING_ROOM {
         return stay(answers::SHORT_BUFFER, run);
     }
     if run.finished {

@@ -1,6 +1,7 @@
 // A script of steps: its lines read, what each did printed, all on lent bytes.
 mod closing;
 pub mod filling;
+mod limits;
 mod lines;
 mod printing;
 mod reading;

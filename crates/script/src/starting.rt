@@ -1,6 +1,8 @@
 // A script started: its first line read, and the run that its other lines are done in.
 ghost use mathlib.Core.Path.{_≡_};
 ghost use Rattle.script.specs.Starting.{notStarted, PutsAnswer, startedOf};
+use crate::limits::MOST_BYTES;
+use crate::limits::STEP_ROOM;
 use crate::lines::stations_of;
 use crate::printing::put_says;
 use crate::reading::line_at;
@@ -54,7 +56,7 @@ fn not_started(answer: u8) -> Started
 pub fn start(script: &[u8]) -> Started
     ensures { λ r. ⌜ r ≡ startedOf (now (script .entry)) ⌝ }
 {
-    if 65536 < script.len() {
+    if MOST_BYTES < script.len() {
         return not_started(answers::LONG_SCRIPT);
     }
     let Numeral::Reads(count) = stations_of(line_at(script, 0)) else {
@@ -82,7 +84,7 @@ pub fn start(script: &[u8]) -> Started
 pub fn put_answer(answer: u8, out: &mut [u8]) -> Put
     ensures { λ r. ⌜ PutsAnswer answer (now (out .entry)) r (now (out .exit)) ⌝ }
 {
-    if out.len() < 64 {
+    if out.len() < STEP_ROOM {
         return Put {
             answer: answers::SHORT_BUFFER,
             result: 0,

@@ -8,7 +8,9 @@ use rules::clocks::DestinationClock;
 use rules::clocks::SourceClock;
 use rules::held::HeldSlot;
 use rules::held::HeldToken;
+use rules::limits::LEAST_STATIONS;
 use rules::limits::MOST_INTAKE;
+use rules::limits::MOST_STATIONS;
 use rules::limits::MOST_VALUE;
 use rules::message::Message;
 
@@ -58,7 +60,7 @@ fn cells_are_sound(s: Station) -> bool
     let destination = s.destination;
     let mut sound = true;
     let mut k: usize = 0;
-    while k < 16 {
+    while k < MOST_STATIONS {
         let slots = s.slots[k];
         let slot = slots.held;
         let tokens = s.tokens[k];
@@ -74,7 +76,7 @@ fn cells_are_sound(s: Station) -> bool
 pub fn count_is_sound(count: u64) -> bool
     ensures { λ r. ⌜ r ≡ countSound count ⌝ }
 {
-    (2 <= count) & (count <= 16)
+    (LEAST_STATIONS as u64 <= count) & (count <= MOST_STATIONS as u64)
 }
 
 pub fn station_is_sound(s: Station) -> bool
@@ -84,8 +86,8 @@ pub fn station_is_sound(s: Station) -> bool
     let destination = s.destination;
     let clocks = source.in_range() & destination.in_range();
     let cells = cells_are_sound(s);
-    (2 <= s.count)
-        & (s.count <= 16)
+    (LEAST_STATIONS <= s.count)
+        & (s.count <= MOST_STATIONS)
         & (s.number < s.count)
         & (s.value <= MOST_VALUE)
         & (s.intake <= MOST_INTAKE)

@@ -3,6 +3,7 @@ use crate::held::SlotCell;
 use crate::held::TokenCell;
 use rules::clocks::DestinationClock;
 use rules::clocks::SourceClock;
+use rules::limits::MOST_STATIONS;
 
 // Its own number and the count of stations, its value, its intake, its two clocks, and for every peer at most one slot
 // and at most one token.
@@ -13,6 +14,6 @@ pub struct Station {
     pub intake: u64,
     pub source: SourceClock,
     pub destination: DestinationClock,
-    pub slots: [SlotCell; 16],
-    pub tokens: [TokenCell; 16],
+    pub slots: [SlotCell; MOST_STATIONS],
+    pub tokens: [TokenCell; MOST_STATIONS],
 }

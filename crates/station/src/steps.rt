@@ -13,6 +13,7 @@ use rules::clocks::DestinationClock;
 use rules::clocks::SourceClock;
 use rules::held::HeldSlot;
 use rules::held::HeldToken;
+use rules::limits::MOST_STATIONS;
 use rules::report::no_report;
 use rules::stock::Stock;
 use rules::stock::add_to;
@@ -34,8 +35,8 @@ pub fn blank_station(number: usize, count: usize) -> Station
         intake: 0,
         source: SourceClock(0),
         destination: DestinationClock(0),
-        slots: [slot; 16],
-        tokens: [token; 16],
+        slots: [slot; MOST_STATIONS],
+        tokens: [token; MOST_STATIONS],
     }
 }
 

@@ -7,6 +7,7 @@ use rules::clocks::DestinationClock;
 use rules::clocks::SourceClock;
 use rules::held::HeldSlot;
 use rules::held::HeldToken;
+use rules::limits::MOST_STATIONS;
 use rules::side::Side;
 use station::station::Station;
 
@@ -33,7 +34,7 @@ pub(crate) fn cells_for(s: Station, j: usize) -> Cells
 }
 
 // A station is copied out once for its sixteen cells.
-pub(crate) fn cells_of(stations: [Station; 16]) -> AllCells
+pub(crate) fn cells_of(stations: [Station; MOST_STATIONS]) -> AllCells
     ensures { λ r. ⌜ r .cells ≡ cellsOf stations ⌝ }
 {
     let none = Cells {
@@ -44,9 +45,9 @@ pub(crate) fn cells_of(stations: [Station; 16]) -> AllCells
     let mut s = stations[0];
     let mut n: usize = 0;
     while n < 256 {
-        let j = n % 16;
+        let j = n % MOST_STATIONS;
         if j == 0 {
-            s = stations[n / 16];
+            s = stations[n / MOST_STATIONS];
         }
         let slots = s.slots[j];
         let slot = slots.held;

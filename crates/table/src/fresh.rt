@@ -3,18 +3,20 @@ ghost use mathlib.Core.Path.{_≡_};
 ghost use Prim.Native.Nat.{_≤_};
 ghost use Rattle.rules.specs.Limits.{mostStations};
 ghost use Rattle.table.specs.Fresh.{blankTable, freshOf, seatsTo};
+use crate::pool::MOST_PLACES;
 use crate::pool::Place;
 use crate::pool::Waiting;
 use crate::stepping::Stepped;
 use crate::table::Table;
 use rules::answers;
+use rules::limits::MOST_STATIONS;
 use rules::report::no_report;
 use station::sound::count_is_sound;
 use station::station::Station;
 use station::steps::blank_station;
 
 pub struct Seats {
-    pub stations: [Station; 16],
+    pub stations: [Station; MOST_STATIONS],
 }
 
 // Fresh stations at the numbers below the count.
@@ -23,7 +25,7 @@ fn fresh_seats(count: usize) -> Seats
     ensures { λ r. ⌜ r .stations ≡ seatsTo count count ⌝ }
 {
     let none = blank_station(0, 0);
-    let mut stations = [none; 16];
+    let mut stations = [none; MOST_STATIONS];
     let mut k: usize = 0;
     while k < count {
         stations[k] = blank_station(k, count);
@@ -44,7 +46,7 @@ fn blank_table(count: usize) -> Table
     Table {
         count,
         stations,
-        pool: [place; 64],
+        pool: [place; MOST_PLACES],
     }
 }
 

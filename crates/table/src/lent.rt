@@ -1,6 +1,7 @@
 // A pool that is lent: its places stand in the caller's memory, and a step changes at most one of them.
 ghost use mathlib.Core.Path.{_≡_};
 ghost use Rattle.table.specs.Lent.{SendsIn, LosesIn, sentValue, lostValue, cleared, holding};
+use crate::pool::MOST_PLACES;
 use crate::pool::Place;
 use crate::pool::Waiting;
 use crate::pool::is_empty;
@@ -33,7 +34,7 @@ fn cleared() -> Place
 pub fn send_in(pool: &mut [Place], m: Message) -> Told
     ensures { λ r. ⌜ SendsIn (now (pool .entry)) m r (now (pool .exit)) ⌝ }
 {
-    if pool.len() != 64 {
+    if pool.len() != MOST_PLACES {
         return Told {
             answer: answers::NOT_SOUND,
             result: 0,
@@ -41,7 +42,7 @@ pub fn send_in(pool: &mut [Place], m: Message) -> Told
     }
     let mut p: usize = 0;
     let found = loop {
-        if 64 <= p {
+        if MOST_PLACES <= p {
             return Told {
                 answer: answers::POOL_FULL,
                 result: 0,
@@ -63,12 +64,13 @@ pub fn send_in(pool: &mut [Place], m: Message) -> Told
 pub fn lose_in(pool: &mut [Place], p: u64) -> Told
     ensures { λ r. ⌜ LosesIn (now (pool .entry)) p r (now (pool .exit)) ⌝ }
 {
-    if pool.len() != 64 {
+    if pool.len() != MOST_PLACES {
         return Told {
             answer: answers::NOT_SOUND,
             result: 0,
         };
     }
+    // A number here, not the name: a cast is one step more in the proof by hand.
     if 64 <= p {
         return Told {
             answer: answers::NO_SUCH_PLACE,
@@ -92,18 +94,18 @@ pub fn lose_in(pool: &mut [Place], p: u64) -> Told
 // A pool by value, after a step on it.
 pub struct Pooled {
     pub told: Told,
-    pub pool: [Place; 64],
+    pub pool: [Place; MOST_PLACES],
 }
 
 // The two, made one by a call: so a proof by hand needs no law on the fields.
-pub(crate) fn both(told: Told, pool: [Place; 64]) -> Pooled
+pub(crate) fn both(told: Told, pool: [Place; MOST_PLACES]) -> Pooled
     ensures { λ r. ⌜ r ≡ record { told = told; pool = pool } ⌝ }
 {
     Pooled { told, pool }
 }
 
 // The same two steps, on a pool by value. What they promise names no reference, so that a caller needs none.
-pub fn send_value(pool: [Place; 64], m: Message) -> Pooled
+pub fn send_value(pool: [Place; MOST_PLACES], m: Message) -> Pooled
     ensures { λ r. ⌜ r ≡ sentValue pool m ⌝ }
 {
     let mut mine = pool;
@@ -111,7 +113,7 @@ pub fn send_value(pool: [Place; 64], m: Message) -> Pooled
     both(told, mine)
 }
 
-pub fn lose_value(pool: [Place; 64], p: u64) -> Pooled
+pub fn lose_value(pool: [Place; MOST_PLACES], p: u64) -> Pooled
     ensures { λ r. ⌜ r ≡ lostValue pool p ⌝ }
 {
     let mut mine = pool;

@@ -2,10 +2,12 @@
 ghost use mathlib.Core.Path.{_≡_};
 ghost use Rattle.table.specs.Table.{below, mostPlaces};
 ghost use Rattle.table.specs.Looking.{placeLookedAt, lookedAt, endsOf, seatLookedAt, freeFor};
+use crate::pool::MOST_PLACES;
 use crate::pool::Waiting;
 use crate::steps::Asked;
 use crate::steps::Step;
 use crate::taken::lowest_empty;
+use rules::limits::MOST_STATIONS;
 
 // A station and a peer of it.
 pub struct Looked {
@@ -23,8 +25,8 @@ fn look(station: u64, peer: u64) -> Looked
     ensures { λ r. ⌜ r ≡ lookedAt station peer ⌝ }
 {
     Looked {
-        station: index_below(station, 16),
-        peer: index_below(peer, 16),
+        station: index_below(station, MOST_STATIONS),
+        peer: index_below(peer, MOST_STATIONS),
     }
 }
 
@@ -49,8 +51,8 @@ pub(crate) fn place_looked_at(asked: Asked) -> usize
         Step::Add(_, _) => 0,
         Step::Draw(_, _) => 0,
         Step::Send(_, _) => 0,
-        Step::Deliver(p) => index_below(p, 64),
-        Step::Lose(p) => index_below(p, 64),
+        Step::Deliver(p) => index_below(p, MOST_PLACES),
+        Step::Lose(p) => index_below(p, MOST_PLACES),
     }
 }
 
@@ -71,17 +73,17 @@ pub(crate) fn seat_looked_at(asked: Asked, waiting: Waiting) -> Looked
 }
 
 // Only a send has the lowest-numbered empty place searched.
-pub(crate) fn free_for(asked: Asked, taken: &[u8; 64]) -> usize
+pub(crate) fn free_for(asked: Asked, taken: &[u8; MOST_PLACES]) -> usize
     ensures { λ r. ⌜ r ≡ freeFor asked (now (taken .entry)) ⌝ }
 {
     let Asked::OneStep(step) = asked else {
-        return 64;
+        return MOST_PLACES;
     };
     match step {
-        Step::Add(_, _) => 64,
-        Step::Draw(_, _) => 64,
+        Step::Add(_, _) => MOST_PLACES,
+        Step::Draw(_, _) => MOST_PLACES,
         Step::Send(_, _) => lowest_empty(taken),
-        Step::Deliver(_) => 64,
-        Step::Lose(_) => 64,
+        Step::Deliver(_) => MOST_PLACES,
+        Step::Lose(_) => MOST_PLACES,
     }
 }

@@ -1,6 +1,7 @@
 // What a step will do, by no more of a table than it looks at: one station, its cells for one peer, one place, and the lowest-numbered empty place.
 ghost use mathlib.Core.Path.{_≡_};
 ghost use Rattle.table.specs.Planning.{refusedPlan, stockPlan, placePlan, messageBy, sendPlan, sidePlan, deliverPlan, losePlan, planAt};
+use crate::pool::MOST_PLACES;
 use crate::pool::Waiting;
 use crate::steps::Asked;
 use crate::steps::Step;
@@ -98,7 +99,7 @@ fn plan_send(from: u64, to: u64, count: usize, x: Side, free: usize) -> Plan
     if from == to {
         return refuse(answers::SAME_STATION);
     }
-    if 64 <= free {
+    if MOST_PLACES <= free {
         return refuse(answers::POOL_FULL);
     }
     let m = message_of(from as usize, to as usize, x);
@@ -132,7 +133,7 @@ fn plan_side(r: Taken) -> Plan
 fn plan_deliver(p: u64, waiting: Waiting, x: Side) -> Plan
     ensures { λ r. ⌜ r ≡ deliverPlan p waiting x ⌝ }
 {
-    if 64 <= p {
+    if MOST_PLACES as u64 <= p {
         return refuse(answers::NO_SUCH_PLACE);
     }
     let Waiting::One(m) = waiting else {
@@ -145,7 +146,7 @@ fn plan_deliver(p: u64, waiting: Waiting, x: Side) -> Plan
 fn plan_lose(p: u64, waiting: Waiting) -> Plan
     ensures { λ r. ⌜ r ≡ losePlan p waiting ⌝ }
 {
-    if 64 <= p {
+    if MOST_PLACES as u64 <= p {
         return refuse(answers::NO_SUCH_PLACE);
     }
     let Waiting::One(_) = waiting else {

@@ -3,6 +3,8 @@ ghost use mathlib.Core.Path.{_≡_};
 ghost use Rattle.table.specs.Table.{isEmpty};
 use rules::message::Message;
 
+pub const MOST_PLACES: usize = 64;
+
 pub enum Waiting {
     Empty,
     One(Message),

@@ -26,6 +26,7 @@ use crate::table::Table;
 use crate::taken::flag_of;
 use crate::taken::flags_of;
 use rules::answers;
+use rules::limits::MOST_STATIONS;
 use rules::report::Report;
 use rules::report::rules_of;
 use rules::side::Side;
@@ -117,7 +118,7 @@ fn run_sound(t: Table, codes: &[u64], told: &mut [u64], steps: usize) -> Ran
         let destination = table.stations[k].destination.0;
         let value = table.stations[k].value;
         let intake = table.stations[k].intake;
-        let x = side_by(value, source, destination, cells[16 * k + j]);
+        let x = side_by(value, source, destination, cells[MOST_STATIONS * k + j]);
         let plan = plan_at(table.count, asked, intake, x, waiting, free);
         let change = plan.change;
         match change {
@@ -128,7 +129,7 @@ fn run_sound(t: Table, codes: &[u64], told: &mut [u64], steps: usize) -> Ran
             }
             Change::AtSide(side) => {
                 table.stations[k] = with_side(table.stations[k], j, side);
-                cells[16 * k + j] = cells_for(table.stations[k], j);
+                cells[MOST_STATIONS * k + j] = cells_for(table.stations[k], j);
             }
             Change::AtPlace(p, w) => {
                 table.pool[p] = Place { waiting: w };

@@ -4,9 +4,12 @@ ghost use Rattle.rules.specs.Limits.{mostStations};
 ghost use Rattle.rules.specs.Below.{allBelow};
 ghost use Rattle.table.specs.Table.{mostPlaces, placeIn, stationIn};
 ghost use Rattle.table.specs.Sound.{seatSound, placeSound, tableSound};
+use crate::pool::MOST_PLACES;
 use crate::pool::Place;
 use crate::pool::Waiting;
 use crate::table::Table;
+use rules::limits::LEAST_STATIONS;
+use rules::limits::MOST_STATIONS;
 use station::sound::message_is_sound;
 use station::sound::station_is_sound;
 use station::station::Station;
@@ -30,12 +33,12 @@ fn place_is_sound(waiting: Waiting, count: usize) -> bool
     message_is_sound(m) & (m.from < count) & (m.to < count)
 }
 
-fn seats_are_sound(stations: [Station; 16], count: usize) -> bool
+fn seats_are_sound(stations: [Station; MOST_STATIONS], count: usize) -> bool
     ensures { λ r. ⌜ r ≡ allBelow (λ k. seatSound (stationIn stations k) k count) mostStations ⌝ }
 {
     let mut sound = true;
     let mut k: usize = 0;
-    while k < 16 {
+    while k < MOST_STATIONS {
         let s = stations[k];
         sound = sound & seat_is_sound(s, k, count);
         k = k + 1;
@@ -43,12 +46,12 @@ fn seats_are_sound(stations: [Station; 16], count: usize) -> bool
     sound
 }
 
-fn places_are_sound(pool: [Place; 64], count: usize) -> bool
+fn places_are_sound(pool: [Place; MOST_PLACES], count: usize) -> bool
     ensures { λ r. ⌜ r ≡ allBelow (λ p. placeSound (placeIn pool p) count) mostPlaces ⌝ }
 {
     let mut sound = true;
     let mut p: usize = 0;
-    while p < 64 {
+    while p < MOST_PLACES {
         let place = pool[p];
         let waiting = place.waiting;
         sound = sound & place_is_sound(waiting, count);
@@ -64,5 +67,8 @@ pub fn table_is_sound(t: Table) -> bool
     let count = t.count;
     let stations = t.stations;
     let pool = t.pool;
-    (2 <= count) & (count <= 16) & seats_are_sound(stations, count) & places_are_sound(pool, count)
+    (LEAST_STATIONS <= count)
+        & (count <= MOST_STATIONS)
+        & seats_are_sound(stations, count)
+        & places_are_sound(pool, count)
 }

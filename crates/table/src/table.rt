@@ -1,10 +1,12 @@
 // A table by value.
+use crate::pool::MOST_PLACES;
 use crate::pool::Place;
+use rules::limits::MOST_STATIONS;
 use station::station::Station;
 
 // The count of its stations, an array of stations by number, and the pool. What stands at a number not below the count is no part of the table.
 pub struct Table {
     pub count: usize,
-    pub stations: [Station; 16],
-    pub pool: [Place; 64],
+    pub stations: [Station; MOST_STATIONS],
+    pub pool: [Place; MOST_PLACES],
 }

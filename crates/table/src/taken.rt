@@ -1,11 +1,12 @@
 // Which places of a pool are taken, as numbers that a search can be lent: 1 where a message waits, 0 where a place is empty.
 ghost use mathlib.Core.Path.{_≡_};
 ghost use Rattle.table.specs.Looking.{flagOf, flagsOf, lowestZero};
+use crate::pool::MOST_PLACES;
 use crate::pool::Place;
 use crate::pool::Waiting;
 
 pub struct Flags {
-    pub taken: [u8; 64],
+    pub taken: [u8; MOST_PLACES],
 }
 
 pub(crate) fn flag_of(waiting: Waiting) -> u8
@@ -17,12 +18,12 @@ pub(crate) fn flag_of(waiting: Waiting) -> u8
     1
 }
 
-pub(crate) fn flags_of(pool: [Place; 64]) -> Flags
+pub(crate) fn flags_of(pool: [Place; MOST_PLACES]) -> Flags
     ensures { λ r. ⌜ r .taken ≡ flagsOf pool ⌝ }
 {
-    let mut taken: [u8; 64] = [0; 64];
+    let mut taken: [u8; MOST_PLACES] = [0; MOST_PLACES];
     let mut p: usize = 0;
-    while p < 64 {
+    while p < MOST_PLACES {
         let place = pool[p];
         let waiting = place.waiting;
         taken[p] = flag_of(waiting);
@@ -32,13 +33,13 @@ pub(crate) fn flags_of(pool: [Place; 64]) -> Flags
 }
 
 // The lowest-numbered empty place, or 64 where all are taken: every place before it is taken.
-pub(crate) fn lowest_empty(taken: &[u8; 64]) -> usize
+pub(crate) fn lowest_empty(taken: &[u8; MOST_PLACES]) -> usize
     ensures { λ r. ⌜ r ≡ lowestZero (now (taken .entry)) ⌝ }
 {
     let mut p: usize = 0;
     let found = loop {
-        if 64 <= p {
-            break 64;
+        if MOST_PLACES <= p {
+            break MOST_PLACES;
         }
         if taken[p] == 0 {
             break p;
