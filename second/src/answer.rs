@@ -9,7 +9,7 @@ pub enum Answer {
     /// "table or station lent is not sound, or a count is not 2 to 16"
     NotSound = 1,
     /// "station number, or the from or to of a received record, not below the count"
-    NoStation = 2,
+    NotBelowCount = 2,
     /// "sender and receiver are the same"
     SameStation = 3,
     /// "amount is 0 or above 1,000,000,000"
@@ -19,7 +19,7 @@ pub enum Answer {
     /// "all 64 places are taken"
     PoolFull = 6,
     /// "place number above 63"
-    NoPlace = 7,
+    NoSuchPlace = 7,
     /// "place is empty"
     EmptyPlace = 8,
     /// "bytes are no record, or a message to be written is not sound"
@@ -27,9 +27,9 @@ pub enum Answer {
     /// "an add, or a fill by rule 1, would bring a value above 16,000,000,000"
     ValueLimit = 10,
     /// "a received record is for another station"
-    OtherStation = 11,
+    ForAnother = 11,
     /// "a script line can't be read"
-    Unreadable = 12,
+    BadLine = 12,
     /// "the script is longer than 65,536 bytes"
     LongScript = 13,
     /// "the output buffer is shorter than the record"

@@ -1,7 +1,7 @@
 //! What a message shows, and when it is sound.
 
 use crate::held::{slot_is_sound, token_is_sound};
-use crate::limits::{is_clock, is_value, NUMBER_MOST};
+use crate::limits::{is_clock, is_value, MOST_NUMBER};
 use crate::Held;
 
 /// "A message shows: from, to, the sender's value and both its clocks, the
@@ -23,8 +23,8 @@ impl Message {
     /// from and to different and at most 15."
     pub fn is_sound(&self) -> bool {
         self.from != self.to
-            && self.from <= NUMBER_MOST
-            && self.to <= NUMBER_MOST
+            && self.from <= MOST_NUMBER
+            && self.to <= MOST_NUMBER
             && is_value(self.value)
             && is_clock(self.source)
             && is_clock(self.destination)

@@ -1,7 +1,7 @@
 //! "The five rules of receiving. Station i takes message m from j. Each rule
 //! sees what the earlier ones left."
 
-use crate::limits::{is_value, CLOCK_END};
+use crate::limits::{is_value, LAST_CLOCK};
 use crate::{Answer, Fault, Held, Message, Report, Station, Told};
 
 /// A receiving under way: the later station and what is to be told.
@@ -100,7 +100,7 @@ impl Taking<'_> {
             _ => self.station.value,
         };
         let half = half_difference(self.message.value, own);
-        if half < 1 || self.station.destination == CLOCK_END {
+        if half < 1 || self.station.destination == LAST_CLOCK {
             return;
         }
         self.station.slots[self.peer] = Some(Held {
@@ -134,7 +134,7 @@ impl Taking<'_> {
         let Some(slot) = self.message.slot else {
             return;
         };
-        if slot.source != self.station.source || self.station.source == CLOCK_END {
+        if slot.source != self.station.source || self.station.source == LAST_CLOCK {
             return;
         }
         let quantity = self.station.value.min(slot.quantity);

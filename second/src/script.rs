@@ -2,7 +2,7 @@
 
 use std::fmt::Write;
 
-use crate::limits::{DIGITS_MOST, SCRIPT_MOST};
+use crate::limits::{MOST_BYTES, MOST_DIGITS};
 use crate::{Answer, Fault, Table, Told};
 
 /// One line after the first.
@@ -18,7 +18,7 @@ pub enum Step {
 /// "numbers of 1 to 10 decimal digits without a leading zero (0 itself is
 /// fine)".
 pub fn number(word: &[u8]) -> Option<u64> {
-    let long = word.is_empty() || word.len() > DIGITS_MOST;
+    let long = word.is_empty() || word.len() > MOST_DIGITS;
     let leading_zero = word.len() > 1 && word[0] == b'0';
     if long || leading_zero || !word.iter().all(u8::is_ascii_digit) {
         return None;
@@ -82,7 +82,7 @@ pub fn run(script: &[u8], fault: Fault) -> Vec<u8> {
     for (index, line) in steps.iter().enumerate() {
         let told = match step_line(line) {
             Some(step) => do_step(&mut table, step, fault),
-            None => Told::refused(Answer::Unreadable),
+            None => Told::refused(Answer::BadLine),
         };
         put(&mut out, format_args!("{} {} {}", index + 1, told.answer.number(), told.result));
     }
@@ -93,12 +93,12 @@ pub fn run(script: &[u8], fault: Fault) -> Vec<u8> {
 /// "An unreadable first line, or no input, prints `0 12 0` and stops; a bad
 /// count `0 1 0`; an overlong script `0 13 0`, tested first."
 fn begin(script: &[u8]) -> Result<(Table, Vec<&[u8]>), Answer> {
-    if script.len() > SCRIPT_MOST {
+    if script.len() > MOST_BYTES {
         return Err(Answer::LongScript);
     }
     let all = lines(script);
-    let (first, steps) = all.split_first().ok_or(Answer::Unreadable)?;
-    let count = first_line(first).ok_or(Answer::Unreadable)?;
+    let (first, steps) = all.split_first().ok_or(Answer::BadLine)?;
+    let count = first_line(first).ok_or(Answer::BadLine)?;
     match Table::fresh(count) {
         (Told { answer: Answer::Done, .. }, table) => Ok((table, steps.to_vec())),
         (refused, _) => Err(refused.answer),

@@ -1,7 +1,7 @@
 //! One station: what it has, when it is sound, and its calls.
 
 use crate::held::{slot_is_sound, token_is_sound};
-use crate::limits::{is_amount, is_clock, is_count, is_value, INTAKE_MOST, PEERS};
+use crate::limits::{is_amount, is_clock, is_count, is_value, MOST_INTAKE, PEERS};
 use crate::{record, rules, Answer, Fault, Held, Message, Told};
 
 /// "A station has: its own number and the count of stations, its value, its
@@ -27,7 +27,7 @@ impl Station {
             return (Told::refused(Answer::NotSound), Station::default());
         }
         if number >= count {
-            return (Told::refused(Answer::NoStation), Station::default());
+            return (Told::refused(Answer::NotBelowCount), Station::default());
         }
         (Told::done(0), Station { number, count, ..Station::default() })
     }
@@ -38,7 +38,7 @@ impl Station {
         is_count(self.count)
             && self.number < self.count
             && is_value(self.value)
-            && self.intake <= INTAKE_MOST
+            && self.intake <= MOST_INTAKE
             && is_clock(self.source)
             && is_clock(self.destination)
             && (0..PEERS).all(|peer| self.peer_is_sound(peer))
@@ -70,7 +70,7 @@ impl Station {
         if !is_amount(amount) {
             return Err(Answer::BadAmount);
         }
-        if self.intake + amount > INTAKE_MOST {
+        if self.intake + amount > MOST_INTAKE {
             return Err(Answer::IntakeLimit);
         }
         if !is_value(self.value + amount) {
@@ -101,7 +101,7 @@ impl Station {
     pub fn message_for(&self, to: u64) -> Result<Message, Answer> {
         self.lent_sound()?;
         if to >= self.count {
-            return Err(Answer::NoStation);
+            return Err(Answer::NotBelowCount);
         }
         if to == self.number {
             return Err(Answer::SameStation);
@@ -151,10 +151,10 @@ impl Station {
             return Err(Answer::NoRecord);
         };
         if message.from >= self.count || message.to >= self.count {
-            return Err(Answer::NoStation);
+            return Err(Answer::NotBelowCount);
         }
         if message.to != self.number {
-            return Err(Answer::OtherStation);
+            return Err(Answer::ForAnother);
         }
         Ok(())
     }

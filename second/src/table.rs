@@ -1,6 +1,6 @@
 //! A whole table of stations with the messages waiting between them.
 
-use crate::limits::{is_count, PEERS, PLACES};
+use crate::limits::{is_count, MOST_PLACES, PEERS};
 use crate::{rules, Answer, Fault, Message, Station, Told};
 
 /// The count, the stations (those past the count are no part of the table)
@@ -9,7 +9,7 @@ use crate::{rules, Answer, Fault, Message, Station, Told};
 pub struct Table {
     pub count: u64,
     pub stations: [Station; PEERS],
-    pub pool: [Option<Message>; PLACES],
+    pub pool: [Option<Message>; MOST_PLACES],
 }
 
 impl Table {
@@ -20,7 +20,7 @@ impl Table {
         let mut table = Table {
             count: 0,
             stations: std::array::from_fn(|_| Station::default()),
-            pool: [None; PLACES],
+            pool: [None; MOST_PLACES],
         };
         if !is_count(count) {
             return (Told::refused(Answer::NotSound), table);
@@ -133,7 +133,7 @@ impl Table {
             return Err(Answer::NotSound);
         }
         if station >= self.count {
-            return Err(Answer::NoStation);
+            return Err(Answer::NotBelowCount);
         }
         Ok(station as usize)
     }
@@ -143,8 +143,8 @@ impl Table {
         if !self.is_sound() {
             return Err(Answer::NotSound);
         }
-        if place >= PLACES as u64 {
-            return Err(Answer::NoPlace);
+        if place >= MOST_PLACES as u64 {
+            return Err(Answer::NoSuchPlace);
         }
         let index = place as usize;
         match self.pool[index] {

@@ -1,7 +1,7 @@
 //! What the document shows: its worked script, its cases at the edges, its
 //! 30-byte record, and the ways it has been got wrong.
 
-use second::limits::{CLOCK_END, VALUE_MOST};
+use second::limits::{LAST_CLOCK, MOST_VALUE};
 use second::{record, script, Answer, Fault, Held, Message, Station, Table, Told};
 
 const WORKED: &str = "stations 2/add 0 10/send 0 1/deliver 0/send 1 0/deliver 1/draw 0 7/\
@@ -163,7 +163,7 @@ fn the_30_byte_record_is_written() {
     assert_eq!(out[30..], [0xee; 3]);
     assert_eq!(sender.write(1, &mut out[..29]), Told::refused(Answer::ShortBuffer));
     assert_eq!(sender.write(0, &mut []), Told::refused(Answer::SameStation));
-    assert_eq!(sender.write(2, &mut []), Told::refused(Answer::NoStation));
+    assert_eq!(sender.write(2, &mut []), Told::refused(Answer::NotBelowCount));
 }
 
 #[test]
@@ -189,17 +189,17 @@ fn wrong_rule_4_without_a_look_at_the_slot() {
 
 #[test]
 fn clocks_at_their_end_open_and_make_nothing() {
-    let mut receiver = Station { destination: CLOCK_END, ..station(0) };
+    let mut receiver = Station { destination: LAST_CLOCK, ..station(0) };
     assert_eq!(take(&mut receiver, &message(10)), Told::done(0));
-    let mut maker = Station { source: CLOCK_END, ..station(9) };
-    let slot = Some(held(CLOCK_END, 0, 5));
+    let mut maker = Station { source: LAST_CLOCK, ..station(9) };
+    let slot = Some(held(LAST_CLOCK, 0, 5));
     assert_eq!(take(&mut maker, &Message { slot, ..asking() }), Told::done(0));
     assert_eq!(maker.value, 9);
 }
 
 #[test]
 fn a_fill_above_the_limit_is_refused() {
-    let mut receiver = Station { destination: 1, ..station(VALUE_MOST) };
+    let mut receiver = Station { destination: 1, ..station(MOST_VALUE) };
     receiver.slots[0] = Some(held(0, 0, 1));
     let before = receiver.clone();
     let carrying = Message { source: 1, token: Some(held(0, 0, 1)), ..message(0) };
@@ -213,9 +213,9 @@ fn receiving_refuses_in_order() {
     let (_, mut receiver) = Station::fresh(1, 3);
     let mut told = |m: Message| receiver.receive_message(&m, Fault::None).answer;
     assert_eq!(told(Message { from: 1, to: 1, ..message(0) }), Answer::NoRecord);
-    assert_eq!(told(Message { from: 3, ..message(0) }), Answer::NoStation);
-    assert_eq!(told(Message { to: 3, ..message(0) }), Answer::NoStation);
-    assert_eq!(told(Message { to: 2, ..message(0) }), Answer::OtherStation);
+    assert_eq!(told(Message { from: 3, ..message(0) }), Answer::NotBelowCount);
+    assert_eq!(told(Message { to: 3, ..message(0) }), Answer::NotBelowCount);
+    assert_eq!(told(Message { to: 2, ..message(0) }), Answer::ForAnother);
     let mut unsound = Station::default();
     assert_eq!(unsound.receive(&[], Fault::None).answer, Answer::NotSound);
 }
@@ -270,7 +270,7 @@ fn soundness_of_a_table() {
     let (_, fresh) = Table::fresh(3);
     assert!(fresh.is_sound());
     let mut other = fresh.clone();
-    other.stations[3].value = VALUE_MOST + 1;
+    other.stations[3].value = MOST_VALUE + 1;
     assert!(other.is_sound(), "stations past the count are no part of the table");
     other.stations[2].count = 4;
     assert_eq!(other.on_the_way(), Told::refused(Answer::NotSound));

@@ -6,7 +6,7 @@ use super::random::Random;
 use super::side::{Own, Side};
 use super::{case_shrink, messages, numbers, stations, Outcome};
 use crate::flat;
-use crate::limits::{AMOUNT_MOST, INTAKE_MOST, VALUE_MOST};
+use crate::limits::{MOST_AMOUNT, MOST_INTAKE, MOST_VALUE};
 use crate::{record, Fault, Station};
 
 /// Compares random cases until the budget is used up or a difference is
@@ -131,10 +131,10 @@ fn station_number(station: &Station, random: &mut Random) -> u64 {
 
 fn amount(station: &Station, random: &mut Random) -> u64 {
     match random.below(8) {
-        0 => random.around(INTAKE_MOST - station.intake),
-        1 => random.around(VALUE_MOST - station.value),
+        0 => random.around(MOST_INTAKE - station.intake),
+        1 => random.around(MOST_VALUE - station.value),
         2 => random.around(station.value),
-        3 => random.around(AMOUNT_MOST),
+        3 => random.around(MOST_AMOUNT),
         4 => numbers::any_number(random),
         5 => 0,
         _ => random.between(1, 5),

@@ -8,7 +8,7 @@ use super::counts::Counts;
 use super::kind::Kind;
 use super::odd_lines;
 use super::random::Random;
-use crate::limits::{PLACES, SCRIPT_MOST};
+use crate::limits::{MOST_BYTES, MOST_PLACES};
 use crate::script::{do_step, step_line, Step};
 use crate::{Answer, Fault, Table, Told};
 
@@ -35,7 +35,7 @@ pub fn script(random: Random) -> (Vec<u8>, Counts) {
     if writer.random.chance(4) {
         return (writer.bad_script(), Counts::default());
     }
-    while writer.counts.lines < writer.kind.lines && writer.script.len() < SCRIPT_MOST - 4000 {
+    while writer.counts.lines < writer.kind.lines && writer.script.len() < MOST_BYTES - 4000 {
         writer.some_lines();
     }
     writer.end();
@@ -57,7 +57,9 @@ impl Writer {
             return None;
         };
         let delivered = match step {
-            Step::Deliver { place } if place < PLACES as u64 => self.table.pool[place as usize],
+            Step::Deliver { place } if place < MOST_PLACES as u64 => {
+                self.table.pool[place as usize]
+            }
             _ => None,
         };
         let told = do_step(&mut self.table, step, Fault::None);

@@ -1,7 +1,7 @@
 //! The kinds of random scripts.
 
 use super::random::Random;
-use crate::limits::AMOUNT_MOST;
+use crate::limits::MOST_AMOUNT;
 
 /// What kind of script is written.
 pub struct Kind {
@@ -39,7 +39,7 @@ impl Kind {
             waiting: random.pick(&[2, 4, 8, 16, 32, 60, 200]),
             damage: random.pick(&[0, 0, 0, 0, 1, 4, 25]),
             odd: random.pick(&[0, 1, 3, 10]),
-            amounts: random.pick(&[3, 10, 100, 100_000, AMOUNT_MOST]),
+            amounts: random.pick(&[3, 10, 100, 100_000, MOST_AMOUNT]),
         }
     }
 }

@@ -2,7 +2,7 @@
 
 use super::numbers::{near_clock, shown_value, value};
 use super::random::Random;
-use crate::limits::{CLOCK_END, VALUE_MOST};
+use crate::limits::{LAST_CLOCK, MOST_VALUE};
 use crate::{Held, Message, Station};
 
 /// A message for this sound station that one or more rules may look at
@@ -45,22 +45,22 @@ fn token_shown(station: &Station, slot: &Held, random: &mut Random) -> Held {
         }
     };
     let (source, destination) = (beside(slot.source), beside(slot.destination));
-    let room = VALUE_MOST - station.value;
+    let room = MOST_VALUE - station.value;
     let quantity = if random.chance(30) { random.around(room) } else { value(random) };
     Held { source, destination, quantity }
 }
 
 /// Makes the message sound by moving as little as need be.
 pub fn repair(message: &mut Message) {
-    message.value = message.value.min(VALUE_MOST);
+    message.value = message.value.min(MOST_VALUE);
     if let Some(slot) = &mut message.slot {
-        slot.quantity = slot.quantity.clamp(1, VALUE_MOST);
-        slot.destination = slot.destination.min(CLOCK_END - 1);
+        slot.quantity = slot.quantity.clamp(1, MOST_VALUE);
+        slot.destination = slot.destination.min(LAST_CLOCK - 1);
         message.destination = message.destination.max(slot.destination + 1);
     }
     if let Some(token) = &mut message.token {
-        token.quantity = token.quantity.min(VALUE_MOST);
-        token.source = token.source.min(CLOCK_END - 1);
+        token.quantity = token.quantity.min(MOST_VALUE);
+        token.source = token.source.min(LAST_CLOCK - 1);
         message.source = message.source.max(token.source + 1);
     }
 }

@@ -1,7 +1,7 @@
 //! Random numbers, at the edges more often than not.
 
 use super::random::Random;
-use crate::limits::{CLOCK_END, INTAKE_MOST, VALUE_MOST};
+use crate::limits::{LAST_CLOCK, MOST_INTAKE, MOST_VALUE};
 
 /// Numbers at the edge of something, for where any u64 may stand.
 pub fn any_number(random: &mut Random) -> u64 {
@@ -15,10 +15,10 @@ pub fn any_number(random: &mut Random) -> u64 {
         17,
         255,
         256,
-        INTAKE_MOST,
-        CLOCK_END,
-        CLOCK_END + 1,
-        VALUE_MOST,
+        MOST_INTAKE,
+        LAST_CLOCK,
+        LAST_CLOCK + 1,
+        MOST_VALUE,
         1 << 40,
         1 << 63,
         u64::MAX - 1,
@@ -37,10 +37,10 @@ pub fn any_number(random: &mut Random) -> u64 {
 /// A clock: small, or at its end, or any.
 pub fn clock(random: &mut Random) -> u64 {
     match random.below(10) {
-        0 => CLOCK_END,
-        1 => CLOCK_END - 1,
-        2 => random.below(CLOCK_END + 1),
-        3 => CLOCK_END - random.below(4),
+        0 => LAST_CLOCK,
+        1 => LAST_CLOCK - 1,
+        2 => random.below(LAST_CLOCK + 1),
+        3 => LAST_CLOCK - random.below(4),
         _ => random.below(4),
     }
 }
@@ -48,11 +48,11 @@ pub fn clock(random: &mut Random) -> u64 {
 /// A value: small, or at its limit, or any.
 pub fn value(random: &mut Random) -> u64 {
     match random.below(10) {
-        0 => VALUE_MOST,
-        1 => VALUE_MOST - random.below(4),
-        2 => random.below(VALUE_MOST + 1),
-        3 => VALUE_MOST / 2 + random.below(3),
-        4 => INTAKE_MOST,
+        0 => MOST_VALUE,
+        1 => MOST_VALUE - random.below(4),
+        2 => random.below(MOST_VALUE + 1),
+        3 => MOST_VALUE / 2 + random.below(3),
+        4 => MOST_INTAKE,
         _ => random.below(12),
     }
 }
@@ -68,7 +68,7 @@ pub fn clock_below(bound: u64, random: &mut Random) -> u64 {
 
 /// The clock, or the end if it is past that.
 pub fn clipped(clock: u64) -> u64 {
-    clock.min(CLOCK_END)
+    clock.min(LAST_CLOCK)
 }
 
 /// The clock, one beside it, or any.

@@ -6,7 +6,7 @@ use super::random::Random;
 use super::records::read_and_receive;
 use super::{messages, numbers, stations};
 use crate::flat::{self, FlatMessage, MESSAGE};
-use crate::limits::{CLOCK_END, VALUE_MOST};
+use crate::limits::{LAST_CLOCK, MOST_VALUE};
 use crate::{record, Message, Station};
 
 /// A few records or messages, changed at random.
@@ -32,11 +32,11 @@ fn odd_message(station: &Station, random: &mut Random) -> Message {
     let mut message = messages::message_for(station, random);
     let (source, destination) = (message.source, message.destination);
     match (random.below(16), &mut message.slot, &mut message.token) {
-        (0, Some(slot), _) => slot.quantity = random.pick(&[0, VALUE_MOST, VALUE_MOST + 1]),
-        (1, Some(slot), _) => slot.destination = random.around(destination).min(CLOCK_END),
-        (2, _, Some(token)) => token.quantity = random.pick(&[0, VALUE_MOST, VALUE_MOST + 1]),
-        (3, _, Some(token)) => token.source = random.around(source).min(CLOCK_END),
-        (4, _, _) => message.value = random.pick(&[0, VALUE_MOST, VALUE_MOST + 1, u64::MAX]),
+        (0, Some(slot), _) => slot.quantity = random.pick(&[0, MOST_VALUE, MOST_VALUE + 1]),
+        (1, Some(slot), _) => slot.destination = random.around(destination).min(LAST_CLOCK),
+        (2, _, Some(token)) => token.quantity = random.pick(&[0, MOST_VALUE, MOST_VALUE + 1]),
+        (3, _, Some(token)) => token.source = random.around(source).min(LAST_CLOCK),
+        (4, _, _) => message.value = random.pick(&[0, MOST_VALUE, MOST_VALUE + 1, u64::MAX]),
         (5, _, _) => message.from = random.below(256),
         (6, _, _) => message.to = random.below(256),
         _ => (),

@@ -3,7 +3,7 @@
 use super::numbers::{any_number, clock, clock_below, value};
 use super::random::Random;
 use crate::flat::FlatStation;
-use crate::limits::{CLOCK_END, INTAKE_MOST, PEERS, VALUE_MOST};
+use crate::limits::{LAST_CLOCK, MOST_INTAKE, MOST_VALUE, PEERS};
 use crate::{Held, Station};
 
 /// A sound station.
@@ -14,8 +14,8 @@ pub fn station(random: &mut Random) -> Station {
         count,
         value: value(random),
         intake: match random.below(3) {
-            0 => INTAKE_MOST - random.below(4),
-            1 => random.below(INTAKE_MOST + 1),
+            0 => MOST_INTAKE - random.below(4),
+            1 => random.below(MOST_INTAKE + 1),
             _ => random.below(20),
         },
         source: clock(random),
@@ -49,9 +49,9 @@ pub fn break_station(row: &mut FlatStation, random: &mut Random) {
         4 => slot(PEERS + peer, [1, source, 0, 1]),
         5 => row[0] = row[1].saturating_add(random.below(2)),
         6 => row[1] = random.pick(&[0, 1, 17, 18, 1 << 32, u64::MAX]),
-        7 => row[2] = VALUE_MOST + 1,
-        8 => row[3] = INTAKE_MOST + 1,
-        9 => row[random.pick(&[4, 5])] = CLOCK_END + 1,
+        7 => row[2] = MOST_VALUE + 1,
+        8 => row[3] = MOST_INTAKE + 1,
+        9 => row[random.pick(&[4, 5])] = LAST_CLOCK + 1,
         10 => row[6 + 4 * random.below(2 * PEERS as u64) as usize] = random.below(3),
         _ => row[random.below(row.len() as u64) as usize] = any_number(random),
     }

@@ -2,7 +2,7 @@
 
 use super::generator::Writer;
 use super::odd_lines::ODD_NUMBERS;
-use crate::limits::{AMOUNT_MOST, INTAKE_MOST, PLACES};
+use crate::limits::{MOST_AMOUNT, MOST_INTAKE, MOST_PLACES};
 use crate::{Answer, Told};
 
 impl Writer {
@@ -58,7 +58,7 @@ impl Writer {
             (1, _) => self.delivered,
             (2, Some(_)) => self.sent[self.random.below(self.sent.len() as u64 / 2 + 1) as usize],
             (_, Some(_)) => self.random.pick(&self.sent),
-            (_, None) => self.random.below(PLACES as u64),
+            (_, None) => self.random.below(MOST_PLACES as u64),
         };
         self.line(format!("deliver {place}"));
     }
@@ -67,7 +67,7 @@ impl Writer {
         let place = match self.sent.first() {
             Some(oldest) if self.random.chance(30) => *oldest,
             Some(_) => self.random.pick(&self.sent),
-            None => self.random.below(PLACES as u64),
+            None => self.random.below(MOST_PLACES as u64),
         };
         self.line(format!("lose {place}"));
     }
@@ -75,10 +75,10 @@ impl Writer {
     /// A small amount, a large one, or just what the intake still allows.
     fn add(&mut self) {
         let (station, _) = self.pair();
-        let left = INTAKE_MOST - self.table.stations[station as usize].intake;
+        let left = MOST_INTAKE - self.table.stations[station as usize].intake;
         let amount = match self.random.weighed(&[70, 10, 6, 6, 8]) {
             0 => self.random.between(1, self.kind.amounts),
-            1 => self.random.between(1, AMOUNT_MOST),
+            1 => self.random.between(1, MOST_AMOUNT),
             2 => left,
             3 => left + 1,
             _ => left.saturating_sub(self.random.below(3)),
@@ -91,7 +91,7 @@ impl Writer {
         let (station, _) = self.pair();
         let value = self.table.stations[station as usize].value;
         let amount = match self.random.weighed(&[20, 10, 70]) {
-            0 => value.clamp(1, AMOUNT_MOST),
+            0 => value.clamp(1, MOST_AMOUNT),
             1 => self.random.around(value),
             _ => self.random.between(1, self.kind.amounts),
         };
@@ -106,7 +106,7 @@ impl Writer {
         for (turn, (from, to)) in [(rich, poor), (poor, rich), (rich, poor)].into_iter().enumerate()
         {
             if empties && turn == 1 {
-                self.line(format!("draw {rich} {AMOUNT_MOST}"));
+                self.line(format!("draw {rich} {MOST_AMOUNT}"));
             }
             let place = match self.line(format!("send {from} {to}")) {
                 Some(Told { answer: Answer::Done, result, .. }) => result,
