@@ -59,6 +59,11 @@ impl Station {
         slot_sound && token_sound
     }
 
+    /// Asking whether a station is sound: refusal 1, and else result 0.
+    pub fn check(&self) -> Told {
+        Told::of(self.lent_sound().map(|()| 0))
+    }
+
     /// "Add raises value and intake. Result: the new value." At one station
     /// refusals 1, 4, 5, 10.
     pub fn add(&mut self, amount: u64) -> Told {

@@ -2,8 +2,10 @@
 
 use second::compare::bench::Own;
 use second::compare::budget::{Budget, Limit};
+use second::compare::side::{Side, ToldRow};
 use second::compare::{calls, records, scripts, side, Outcome};
-use second::Fault;
+use second::flat::{FlatMessage, FlatStation};
+use second::{Fault, Told};
 
 fn by_scripts(fault: Fault) -> Outcome {
     let budget = Budget::new("test", Limit::Steps(20_000));
@@ -49,4 +51,51 @@ fn calls_and_records_show_no_difference_without_a_fault() {
         (side::Own { fault: Fault::None }, side::Own { fault: Fault::None });
     let outcome = records::compare(&mut first, &mut second, 7, budget);
     assert!(matches!(outcome, Outcome::Same(_)));
+}
+
+/// Finds every station sound, and else does as the second implementation.
+struct Nods(side::Own);
+
+impl Side for Nods {
+    fn fresh(&mut self, number: u64, count: u64, station: &mut FlatStation) -> ToldRow {
+        self.0.fresh(number, count, station)
+    }
+
+    fn check(&mut self, _: &FlatStation) -> ToldRow {
+        Told::done(0).into()
+    }
+
+    fn add(&mut self, station: &mut FlatStation, amount: u64) -> ToldRow {
+        self.0.add(station, amount)
+    }
+
+    fn draw(&mut self, station: &mut FlatStation, amount: u64) -> ToldRow {
+        self.0.draw(station, amount)
+    }
+
+    fn write(&mut self, station: &FlatStation, to: u64, out: &mut [u8]) -> ToldRow {
+        self.0.write(station, to, out)
+    }
+
+    fn receive(&mut self, station: &mut FlatStation, record: &[u8]) -> ToldRow {
+        self.0.receive(station, record)
+    }
+
+    fn read(&mut self, record: &[u8], message: &mut FlatMessage) -> ToldRow {
+        self.0.read(record, message)
+    }
+
+    fn write_given(&mut self, message: &FlatMessage, out: &mut [u8]) -> ToldRow {
+        self.0.write_given(message, out)
+    }
+}
+
+#[test]
+fn calls_show_a_check_that_only_nods() {
+    let own = || side::Own { fault: Fault::None };
+    let budget = Budget::new("test", Limit::Steps(50_000));
+    let Outcome::Differs(shown) = calls::compare(&mut Nods(own()), &mut own(), 7, budget) else {
+        panic!("no difference was seen");
+    };
+    assert!(shown.contains("\nCheck\n"), "{shown}");
 }

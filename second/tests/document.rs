@@ -221,6 +221,18 @@ fn receiving_refuses_in_order() {
 }
 
 #[test]
+fn a_station_is_checked() {
+    assert_eq!(station(7).check(), Told::done(0));
+    let beyond = Station { number: 3, count: 3, ..Station::default() };
+    assert_eq!(beyond.check(), Told::refused(Answer::NotSound));
+    let mut holding = station(7);
+    holding.slots[0] = Some(held(0, 0, 1));
+    assert_eq!(holding.check(), Told::refused(Answer::NotSound));
+    holding.destination = 1;
+    assert_eq!(holding.check(), Told::done(0));
+}
+
+#[test]
 fn first_lines() {
     for bad in
         ["", "/", "stations", "stations 02", "stations  2", "stations 2 ", "stations 10000000000"]

@@ -65,7 +65,7 @@ pub fn lower_calls(call: &Call) -> Vec<Call> {
             .into_iter()
             .map(|message| Call::WriteGiven { message, room })
             .collect(),
-        Call::LendAgain => Vec::new(),
+        Call::Check | Call::LendAgain => Vec::new(),
     }
 }
 

@@ -99,12 +99,13 @@ fn fresh(random: &mut Random) -> Station {
 
 /// A call that fits this station, or just does not.
 fn random_call(station: &Station, random: &mut Random) -> Call {
-    match random.weighed(&[3, 14, 14, 14, 50, 5]) {
+    match random.weighed(&[3, 14, 14, 14, 50, 3, 5]) {
         0 => Call::Fresh { number: station_number(station, random), count: some_count(random) },
         1 => Call::Add { amount: amount(station, random) },
         2 => Call::Draw { amount: amount(station, random) },
         3 => Call::Write { to: station_number(station, random), room: room(random) },
         4 => Call::Receive { record: some_record(station, random) },
+        5 => Call::Check,
         _ => Call::LendAgain,
     }
 }

@@ -12,6 +12,7 @@ pub enum Call {
         number: u64,
         count: u64,
     },
+    Check,
     Add {
         amount: u64,
     },
@@ -73,6 +74,7 @@ impl Lent {
         let out = &mut self.buffer[BEFORE..];
         self.told = match call {
             Call::Fresh { number, count } => side.fresh(*number, *count, &mut self.station),
+            Call::Check => side.check(&self.station),
             Call::Add { amount } => side.add(&mut self.station, *amount),
             Call::Draw { amount } => side.draw(&mut self.station, *amount),
             Call::Write { to, room } => side.write(&self.station, *to, &mut out[..*room]),

@@ -5,6 +5,7 @@ use crate::flat::{FlatMessage, FlatStation};
 
 extern "C" {
     fn qb_station_fresh(number: u64, count: u64, station: *mut FlatStation) -> ToldRow;
+    fn qb_station_check(station: *const FlatStation) -> ToldRow;
     fn qb_station_add(station: *mut FlatStation, amount: u64) -> ToldRow;
     fn qb_station_draw(station: *mut FlatStation, amount: u64) -> ToldRow;
     fn qb_station_write(
@@ -29,6 +30,10 @@ pub struct Linked;
 impl Side for Linked {
     fn fresh(&mut self, number: u64, count: u64, station: &mut FlatStation) -> ToldRow {
         unsafe { qb_station_fresh(number, count, station) }
+    }
+
+    fn check(&mut self, station: &FlatStation) -> ToldRow {
+        unsafe { qb_station_check(station) }
     }
 
     fn add(&mut self, station: &mut FlatStation, amount: u64) -> ToldRow {

@@ -31,6 +31,7 @@ impl From<Told> for ToldRow {
 /// One implementation. "Every refusal has result 0 and changes nothing lent."
 pub trait Side {
     fn fresh(&mut self, number: u64, count: u64, station: &mut FlatStation) -> ToldRow;
+    fn check(&mut self, station: &FlatStation) -> ToldRow;
     fn add(&mut self, station: &mut FlatStation, amount: u64) -> ToldRow;
     fn draw(&mut self, station: &mut FlatStation, amount: u64) -> ToldRow;
     fn write(&mut self, station: &FlatStation, to: u64, out: &mut [u8]) -> ToldRow;
@@ -62,6 +63,10 @@ impl Side for Own {
             *station = flat::from_station(&made);
         }
         told.into()
+    }
+
+    fn check(&mut self, station: &FlatStation) -> ToldRow {
+        at(&mut station.clone(), |station| station.check())
     }
 
     fn add(&mut self, station: &mut FlatStation, amount: u64) -> ToldRow {
