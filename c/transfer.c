@@ -103,18 +103,22 @@ static void check_refusals(void) {
     static const uint8_t untouched[29] = {0};
     uint64_t s[QB_STATION_NUMBERS], before[QB_STATION_NUMBERS];
     uint8_t out[29] = {0};
+    size_t room = sizeof out;
     load(0, s);
     load(0, before);
-    refused("0 writes a record for itself", qb_station_write(s, 0, out, sizeof out), QB_SAME_STATION);
-    refused("0 writes for a station 2", qb_station_write(s, 2, out, sizeof out), QB_NO_STATION);
-    refused("0 writes for 1 into 29 bytes", qb_station_write(s, 1, out, sizeof out), QB_BUFFER_TOO_SHORT);
+    refused("0 writes a record for itself", qb_station_write(s, 0, out, room), QB_SAME_STATION);
+    refused("0 writes for a station 2", qb_station_write(s, 2, out, room), QB_NOT_BELOW_COUNT);
+    refused("0 writes for 1 into 29 bytes", qb_station_write(s, 1, out, room), QB_SHORT_BUFFER);
     refused("0 adds no passes", qb_station_add(s, 0), QB_BAD_AMOUNT);
-    refused("0 adds a billion", qb_station_add(s, 1000000000), QB_INTAKE_FULL);
-    refused("0 receives the record for 1", qb_station_receive(s, record, record_len), QB_OTHER_STATION);
-    refused("0 receives it with a byte missing", qb_station_receive(s, record, record_len - 1), QB_NO_RECORD);
+    refused("0 adds a billion", qb_station_add(s, QB_MOST_AMOUNT), QB_INTAKE_LIMIT);
+    refused("0 receives what is for 1", qb_station_receive(s, record, record_len), QB_FOR_ANOTHER);
+    refused("0 receives it with a byte missing", qb_station_receive(s, record, record_len - 1),
+            QB_NO_RECORD);
     if (memcmp(s, before, sizeof s) != 0) surprise("a refusal changed the station");
     if (memcmp(out, untouched, sizeof out) != 0) surprise("a refusal changed the buffer");
-    s[QB_STATION_COUNT] = 17;
+    check("0 is checked, and is sound", qb_station_check(s), (qb_told){0});
+    s[QB_STATION_COUNT] = QB_MOST_STATIONS + 1;
+    refused("0 is checked with a count of 17", qb_station_check(s), QB_NOT_SOUND);
     refused("a station that is not sound draws", qb_station_draw(s, 1), QB_NOT_SOUND);
 }
 

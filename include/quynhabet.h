@@ -83,17 +83,30 @@ extern "C" {
 #define QB_DESTINATION_CLOCK 2
 #define QB_QUANTITY 3
 
-/* The answers. 6, 7, 8, 12 and 13 belong to tables and scripts; nothing here gives them. */
-#define QB_DONE 0               /* done */
-#define QB_NOT_SOUND 1          /* station lent is not sound, or a count is not 2 to 16 */
-#define QB_NO_STATION 2         /* station number, or the from or to of a received record, not below the count */
-#define QB_SAME_STATION 3       /* sender and receiver are the same */
-#define QB_BAD_AMOUNT 4         /* amount is 0 or above 1,000,000,000 */
-#define QB_INTAKE_FULL 5        /* intake would pass its limit */
-#define QB_NO_RECORD 9          /* bytes are no record, or a message to be written is not sound */
-#define QB_VALUE_TOO_HIGH 10    /* an add, or a fill by rule 1, would bring a value above 16,000,000,000 */
-#define QB_OTHER_STATION 11     /* a received record is for another station */
-#define QB_BUFFER_TOO_SHORT 14  /* the output buffer is shorter than the record */
+/* The limits. */
+#define QB_LEAST_STATIONS 2                  /* stations of a table */
+#define QB_MOST_STATIONS 16                  /* stations of a table */
+#define QB_MOST_AMOUNT UINT64_C(1000000000)  /* an amount, which is at least 1 */
+#define QB_MOST_INTAKE UINT64_C(1000000000)  /* an intake, all that was ever added */
+#define QB_MOST_VALUE UINT64_C(16000000000)  /* a value or a quantity */
+#define QB_LAST_CLOCK UINT64_C(4294967295)   /* a clock at its end */
+
+/* The answers. Nothing here gives those of a table or a script. */
+#define QB_DONE 0             /* done */
+#define QB_NOT_SOUND 1        /* the station lent is not sound, or a count is not 2 to 16 */
+#define QB_NOT_BELOW_COUNT 2  /* a station number, or a record's from or to, not below the count */
+#define QB_SAME_STATION 3     /* sender and receiver are the same */
+#define QB_BAD_AMOUNT 4       /* an amount is 0 or above 1,000,000,000 */
+#define QB_INTAKE_LIMIT 5     /* the intake would pass its limit */
+#define QB_POOL_FULL 6        /* of a table: all 64 places are taken */
+#define QB_NO_SUCH_PLACE 7    /* of a table: a place number is above 63 */
+#define QB_EMPTY_PLACE 8      /* of a table: a place is empty */
+#define QB_NO_RECORD 9        /* bytes are no record, or a message is not sound */
+#define QB_VALUE_LIMIT 10     /* an add, or a fill by rule 1, would pass a value's limit */
+#define QB_FOR_ANOTHER 11     /* a received record is for another station */
+#define QB_BAD_LINE 12        /* of a script: a line can't be read */
+#define QB_LONG_SCRIPT 13     /* of a script: it is longer than 65,536 bytes */
+#define QB_SHORT_BUFFER 14    /* the output buffer is shorter than the record */
 
 /* The rules of receiving, as they stand in `rules`. */
 #define QB_RULE_FILL 1
@@ -113,6 +126,9 @@ typedef struct {
 
 /* Makes a fresh station, every value and clock 0. Result 0. Refusals, in order: 1, 2. */
 qb_told qb_station_fresh(uint64_t number, uint64_t count, uint64_t station[QB_STATION_NUMBERS]);
+
+/* Tests whether the numbers are a sound station. Result 0. Refusal: 1. */
+qb_told qb_station_check(const uint64_t station[QB_STATION_NUMBERS]);
 
 /* Adds passes. Result: the new value. Refusals, in order: 1, 4, 5, 10. */
 qb_told qb_station_add(uint64_t station[QB_STATION_NUMBERS], uint64_t amount);
