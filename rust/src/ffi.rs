@@ -2,8 +2,7 @@
 //!
 //! The declarations repeat `include/quynhabet.h`. Nothing else checks them against the archive.
 
-use crate::answer::Answer;
-use crate::{MESSAGE_NUMBERS, STATION_NUMBERS};
+use crate::{Refusal, MESSAGE_NUMBERS, STATION_NUMBERS};
 
 pub(crate) type StationNumbers = [u64; STATION_NUMBERS];
 pub(crate) type MessageNumbers = [u64; MESSAGE_NUMBERS];
@@ -21,17 +20,17 @@ pub(crate) struct Told {
 
 impl Told {
     /// What was told, or the refusal.
-    pub(crate) fn done(self) -> Result<Told, Answer> {
-        match Answer::from_number(self.answer) {
-            Some(Answer::Done) => Ok(self),
+    pub(crate) fn done(self) -> Result<Told, Refusal> {
+        match Refusal::from_number(self.answer) {
+            None => Ok(self),
             Some(refusal) => Err(refusal),
-            None => panic!("the archive gave answer {}, unknown to this package", self.answer),
         }
     }
 }
 
 extern "C" {
     fn qb_station_fresh(number: u64, count: u64, station: *mut StationNumbers) -> Told;
+    fn qb_station_check(station: *const StationNumbers) -> Told;
     fn qb_station_add(station: *mut StationNumbers, amount: u64) -> Told;
     fn qb_station_draw(station: *mut StationNumbers, amount: u64) -> Told;
     fn qb_station_write(
@@ -52,6 +51,11 @@ extern "C" {
 pub(crate) fn station_fresh(number: u64, count: u64, station: &mut StationNumbers) -> Told {
     // SAFETY: the pointer comes from a reference that is ours alone, to an array of full length.
     unsafe { qb_station_fresh(number, count, station) }
+}
+
+pub(crate) fn station_check(station: &StationNumbers) -> Told {
+    // SAFETY: the pointer comes from a reference, to an array of full length, which is only read.
+    unsafe { qb_station_check(station) }
 }
 
 pub(crate) fn station_add(station: &mut StationNumbers, amount: u64) -> Told {

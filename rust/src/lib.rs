@@ -5,9 +5,9 @@
 //! package puts safe types over them and decides nothing itself.
 //!
 //! ```
-//! use quynhabet::{Answer, Station};
+//! use quynhabet::{Refusal, Station};
 //!
-//! fn main() -> Result<(), Answer> {
+//! fn main() -> Result<(), Refusal> {
 //!     let mut giver = Station::fresh(0, 2)?;
 //!     let mut taker = Station::fresh(1, 2)?;
 //!     giver.add(10)?;
@@ -42,31 +42,20 @@
 #![deny(missing_docs)]
 #![deny(unsafe_code)]
 
-mod answer;
 #[allow(unsafe_code)]
 mod ffi;
+mod layout;
+mod limits;
 mod message;
+mod refusal;
 mod report;
 mod station;
 #[cfg(test)]
 mod tests;
 
-pub use answer::Answer;
+pub use layout::{LAYOUT_VERSION, MESSAGE_NUMBERS, RECORD_MAX, SAVE_BYTES, STATION_NUMBERS};
+pub use limits::{LAST_CLOCK, LEAST_STATIONS, MOST_AMOUNT, MOST_INTAKE, MOST_STATIONS, MOST_VALUE};
 pub use message::{DestinationClock, Message, Record, Slot, SourceClock, Token};
+pub use refusal::Refusal;
 pub use report::{Report, Rule};
 pub use station::{LoadFault, Station};
-
-/// The version of the layout of a station's numbers. It stands in front of a save.
-pub const LAYOUT_VERSION: u64 = 1;
-
-/// How many numbers a station has.
-pub const STATION_NUMBERS: usize = 134;
-
-/// How many numbers a message has.
-pub const MESSAGE_NUMBERS: usize = 13;
-
-/// How many bytes the longest record has.
-pub const RECORD_MAX: usize = 68;
-
-/// How many bytes a save has: the version, then the numbers, each 8 bytes, high byte first.
-pub const SAVE_BYTES: usize = 8 * (1 + STATION_NUMBERS);

@@ -4,7 +4,8 @@ use std::fmt;
 use std::ops::Deref;
 
 use crate::ffi::{self, MessageNumbers};
-use crate::{Answer, MESSAGE_NUMBERS, RECORD_MAX};
+use crate::layout::*;
+use crate::Refusal;
 
 /// A source clock. It advances when its station makes a token.
 #[derive(Clone, Copy, Debug, PartialEq, Eq, PartialOrd, Ord, Hash)]
@@ -68,7 +69,7 @@ impl Token {
 /// let message = Message::read(&record)?;
 /// assert_eq!((message.from, message.to, message.value), (0, 1, 10));
 /// assert_eq!(message.write()?, record);
-/// # Ok::<(), quynhabet::Answer>(())
+/// # Ok::<(), quynhabet::Refusal>(())
 /// ```
 #[derive(Clone, Copy, Debug, PartialEq, Eq)]
 pub struct Message {
@@ -89,15 +90,15 @@ pub struct Message {
 }
 
 impl Message {
-    /// Reads a record. Refusal: [`Answer::NoRecord`].
-    pub fn read(record: &[u8]) -> Result<Message, Answer> {
+    /// Reads a record. Refusal: [`Refusal::NoRecord`].
+    pub fn read(record: &[u8]) -> Result<Message, Refusal> {
         let mut numbers = [0; MESSAGE_NUMBERS];
         ffi::record_read(record, &mut numbers).done()?;
         Ok(Message::from_numbers(&numbers))
     }
 
-    /// Writes the record. Refusal: [`Answer::NoRecord`], where the message is not sound.
-    pub fn write(&self) -> Result<Record, Answer> {
+    /// Writes the record. Refusal: [`Refusal::NoRecord`], where the message is not sound.
+    pub fn write(&self) -> Result<Record, Refusal> {
         let mut bytes = [0; RECORD_MAX];
         let told = ffi::record_write(&self.to_numbers(), &mut bytes).done()?;
         Ok(Record::new(bytes, told.result))
@@ -105,44 +106,46 @@ impl Message {
 
     fn from_numbers(numbers: &MessageNumbers) -> Message {
         Message {
-            from: numbers[0],
-            to: numbers[1],
-            value: numbers[2],
-            source_clock: SourceClock(clock(numbers[3])),
-            destination_clock: DestinationClock(clock(numbers[4])),
-            slot: slot_at(&numbers[5..9]),
-            token: token_at(&numbers[9..13]),
+            from: numbers[MESSAGE_FROM],
+            to: numbers[MESSAGE_TO],
+            value: numbers[MESSAGE_VALUE],
+            source_clock: SourceClock(clock(numbers[MESSAGE_SOURCE_CLOCK])),
+            destination_clock: DestinationClock(clock(numbers[MESSAGE_DESTINATION_CLOCK])),
+            slot: slot_at(&numbers[MESSAGE_SLOT..]),
+            token: token_at(&numbers[MESSAGE_TOKEN..]),
         }
     }
 
     fn to_numbers(self) -> MessageNumbers {
         let mut numbers = [0; MESSAGE_NUMBERS];
-        numbers[0] = self.from;
-        numbers[1] = self.to;
-        numbers[2] = self.value;
-        numbers[3] = self.source_clock.0.into();
-        numbers[4] = self.destination_clock.0.into();
-        if let Some(slot) = self.slot {
-            numbers[5..9].copy_from_slice(&held(
-                slot.source_clock,
-                slot.destination_clock,
-                slot.quantity,
-            ));
+        numbers[MESSAGE_FROM] = self.from;
+        numbers[MESSAGE_TO] = self.to;
+        numbers[MESSAGE_VALUE] = self.value;
+        numbers[MESSAGE_SOURCE_CLOCK] = self.source_clock.0.into();
+        numbers[MESSAGE_DESTINATION_CLOCK] = self.destination_clock.0.into();
+        if let Some(Slot { source_clock, destination_clock, quantity }) = self.slot {
+            let four = &mut numbers[MESSAGE_SLOT..];
+            put_held(four, source_clock, destination_clock, quantity);
         }
-        if let Some(token) = self.token {
-            numbers[9..13].copy_from_slice(&held(
-                token.source_clock,
-                token.destination_clock,
-                token.quantity,
-            ));
+        if let Some(Token { source_clock, destination_clock, quantity }) = self.token {
+            let four = &mut numbers[MESSAGE_TOKEN..];
+            put_held(four, source_clock, destination_clock, quantity);
         }
         numbers
     }
 }
 
-/// The four numbers of a slot or token that is held.
-fn held(source_clock: SourceClock, destination_clock: DestinationClock, quantity: u64) -> [u64; 4] {
-    [1, source_clock.0.into(), destination_clock.0.into(), quantity]
+/// Puts a slot or token that is held into the first four numbers.
+fn put_held(
+    numbers: &mut [u64],
+    source: SourceClock,
+    destination: DestinationClock,
+    quantity: u64,
+) {
+    numbers[PRESENT] = 1;
+    numbers[SOURCE_CLOCK] = source.0.into();
+    numbers[DESTINATION_CLOCK] = destination.0.into();
+    numbers[QUANTITY] = quantity;
 }
 
 /// A clock from a number of a sound station or message.
@@ -150,21 +153,21 @@ pub(crate) fn clock(number: u64) -> u32 {
     u32::try_from(number).expect("a sound clock fits 32 bits")
 }
 
-/// The slot that stands in four numbers, if one does.
+/// The slot that stands in the first four numbers, if one does.
 pub(crate) fn slot_at(numbers: &[u64]) -> Option<Slot> {
-    (numbers[0] == 1).then(|| Slot {
-        source_clock: SourceClock(clock(numbers[1])),
-        destination_clock: DestinationClock(clock(numbers[2])),
-        quantity: numbers[3],
+    (numbers[PRESENT] == 1).then(|| Slot {
+        source_clock: SourceClock(clock(numbers[SOURCE_CLOCK])),
+        destination_clock: DestinationClock(clock(numbers[DESTINATION_CLOCK])),
+        quantity: numbers[QUANTITY],
     })
 }
 
-/// The token that stands in four numbers, if one does.
+/// The token that stands in the first four numbers, if one does.
 pub(crate) fn token_at(numbers: &[u64]) -> Option<Token> {
-    (numbers[0] == 1).then(|| Token {
-        source_clock: SourceClock(clock(numbers[1])),
-        destination_clock: DestinationClock(clock(numbers[2])),
-        quantity: numbers[3],
+    (numbers[PRESENT] == 1).then(|| Token {
+        source_clock: SourceClock(clock(numbers[SOURCE_CLOCK])),
+        destination_clock: DestinationClock(clock(numbers[DESTINATION_CLOCK])),
+        quantity: numbers[QUANTITY],
     })
 }
 

@@ -39,7 +39,7 @@ impl Rule {
 /// let report = taker.receive(&giver.record_for(1)?)?;
 /// assert!(report.acted(Rule::OpenSlot) && !report.acted(Rule::Fill));
 /// assert_eq!((report.filled(), report.opened(), report.made()), (None, Some(5), None));
-/// # Ok::<(), quynhabet::Answer>(())
+/// # Ok::<(), quynhabet::Refusal>(())
 /// ```
 #[derive(Clone, Copy, Debug, PartialEq, Eq)]
 pub struct Report {
@@ -59,7 +59,7 @@ impl Report {
         self.rules >> (rule.number() - 1) & 1 == 1
     }
 
-    /// The rules that acted, in their order.
+    /// The rules that acted, in their order. Those that this package does not know are passed over.
     pub fn rules(&self) -> impl Iterator<Item = Rule> + '_ {
         Rule::ALL.into_iter().filter(|rule| self.acted(*rule))
     }

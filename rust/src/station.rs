@@ -4,14 +4,9 @@ use std::error::Error;
 use std::fmt;
 
 use crate::ffi::{self, StationNumbers};
+use crate::layout::*;
 use crate::message::{clock, slot_at, token_at};
-use crate::{Answer, DestinationClock, Record, Report, Slot, SourceClock, Token};
-use crate::{LAYOUT_VERSION, RECORD_MAX, SAVE_BYTES, STATION_NUMBERS};
-
-/// Where the slots start among the numbers.
-const SLOTS: usize = 6;
-/// Where the tokens start among the numbers.
-const TOKENS: usize = 70;
+use crate::{DestinationClock, Record, Refusal, Report, Slot, SourceClock, Token, MOST_STATIONS};
 
 /// A station. It is always sound.
 ///
@@ -25,15 +20,15 @@ impl Station {
     /// A fresh station: every value and clock 0, no slot, no token. Refusals: 1, 2.
     ///
     /// ```
-    /// use quynhabet::{Answer, Station};
+    /// use quynhabet::{Refusal, Station};
     ///
     /// let station = Station::fresh(3, 4)?;
     /// assert_eq!((station.number(), station.count(), station.value()), (3, 4, 0));
-    /// assert_eq!(Station::fresh(0, 17).unwrap_err(), Answer::NotSound);
-    /// assert_eq!(Station::fresh(4, 4).unwrap_err(), Answer::NoStation);
-    /// # Ok::<(), Answer>(())
+    /// assert_eq!(Station::fresh(0, 17).unwrap_err(), Refusal::NotSound);
+    /// assert_eq!(Station::fresh(4, 4).unwrap_err(), Refusal::NotBelowCount);
+    /// # Ok::<(), Refusal>(())
     /// ```
-    pub fn fresh(number: u64, count: u64) -> Result<Station, Answer> {
+    pub fn fresh(number: u64, count: u64) -> Result<Station, Refusal> {
         let mut numbers = [0; STATION_NUMBERS];
         ffi::station_fresh(number, count, &mut numbers).done()?;
         Ok(Station { numbers })
@@ -45,9 +40,9 @@ impl Station {
     /// # let mut station = quynhabet::Station::fresh(0, 2)?;
     /// assert_eq!(station.add(10)?, 10);
     /// assert_eq!(station.add(5)?, 15);
-    /// # Ok::<(), quynhabet::Answer>(())
+    /// # Ok::<(), quynhabet::Refusal>(())
     /// ```
-    pub fn add(&mut self, amount: u64) -> Result<u64, Answer> {
+    pub fn add(&mut self, amount: u64) -> Result<u64, Refusal> {
         Ok(ffi::station_add(&mut self.numbers, amount).done()?.result)
     }
 
@@ -61,9 +56,9 @@ impl Station {
     /// assert_eq!(station.draw(7)?, 7);
     /// assert_eq!(station.draw(7)?, 3);
     /// assert_eq!(station.draw(7)?, 0);
-    /// # Ok::<(), quynhabet::Answer>(())
+    /// # Ok::<(), quynhabet::Refusal>(())
     /// ```
-    pub fn draw(&mut self, amount: u64) -> Result<u64, Answer> {
+    pub fn draw(&mut self, amount: u64) -> Result<u64, Refusal> {
         Ok(ffi::station_draw(&mut self.numbers, amount).done()?.result)
     }
 
@@ -75,9 +70,9 @@ impl Station {
     /// # let station = quynhabet::Station::fresh(0, 2)?;
     /// assert_eq!(station.record_for(1)?.len(), 30);
     /// assert_eq!(station.record_for(0).unwrap_err().number(), 3);
-    /// # Ok::<(), quynhabet::Answer>(())
+    /// # Ok::<(), quynhabet::Refusal>(())
     /// ```
-    pub fn record_for(&self, to: u64) -> Result<Record, Answer> {
+    pub fn record_for(&self, to: u64) -> Result<Record, Refusal> {
         let mut bytes = [0; RECORD_MAX];
         let told = ffi::station_write(&self.numbers, to, &mut bytes).done()?;
         Ok(Record::new(bytes, told.result))
@@ -94,40 +89,40 @@ impl Station {
     /// assert_eq!(taker.receive(&record)?.opened(), Some(5));
     /// assert_eq!(taker.receive(&record)?.opened(), None);
     /// assert_eq!(taker.receive(&record[1..]).unwrap_err().number(), 9);
-    /// # Ok::<(), quynhabet::Answer>(())
+    /// # Ok::<(), quynhabet::Refusal>(())
     /// ```
-    pub fn receive(&mut self, record: &[u8]) -> Result<Report, Answer> {
+    pub fn receive(&mut self, record: &[u8]) -> Result<Report, Refusal> {
         Ok(Report::from_told(ffi::station_receive(&mut self.numbers, record).done()?))
     }
 
     /// The station's number.
     pub fn number(&self) -> u64 {
-        self.numbers[0]
+        self.numbers[STATION_NUMBER]
     }
 
     /// The count of stations.
     pub fn count(&self) -> u64 {
-        self.numbers[1]
+        self.numbers[STATION_COUNT]
     }
 
     /// The passes that the station has.
     pub fn value(&self) -> u64 {
-        self.numbers[2]
+        self.numbers[STATION_VALUE]
     }
 
     /// All passes that were ever added here.
     pub fn intake(&self) -> u64 {
-        self.numbers[3]
+        self.numbers[STATION_INTAKE]
     }
 
     /// The source clock. It advances when a token is made.
     pub fn source_clock(&self) -> SourceClock {
-        SourceClock(clock(self.numbers[4]))
+        SourceClock(clock(self.numbers[STATION_SOURCE_CLOCK]))
     }
 
     /// The destination clock. It advances when a slot is opened.
     pub fn destination_clock(&self) -> DestinationClock {
-        DestinationClock(clock(self.numbers[5]))
+        DestinationClock(clock(self.numbers[STATION_DESTINATION_CLOCK]))
     }
 
     /// The slot for a peer, if there is one. No number of a peer is refused.
@@ -141,21 +136,15 @@ impl Station {
     /// assert_eq!(taker.slot_for(0).unwrap().quantity, 5);
     /// giver.receive(&taker.record_for(0)?)?;
     /// assert!(giver.token_for(1).unwrap().fits(&taker.slot_for(0).unwrap()));
-    /// # Ok::<(), quynhabet::Answer>(())
+    /// # Ok::<(), quynhabet::Refusal>(())
     /// ```
     pub fn slot_for(&self, peer: u64) -> Option<Slot> {
-        slot_at(self.four_for(SLOTS, peer)?)
+        slot_at(&self.numbers[station_slot(index(peer)?)..])
     }
 
     /// The token for a peer, if there is one. No number of a peer is refused.
     pub fn token_for(&self, peer: u64) -> Option<Token> {
-        token_at(self.four_for(TOKENS, peer)?)
-    }
-
-    /// The four numbers for a peer, among the slots or the tokens.
-    fn four_for(&self, start: usize, peer: u64) -> Option<&[u64]> {
-        let peer = usize::try_from(peer).ok().filter(|peer| *peer < 16)?;
-        Some(&self.numbers[start + 4 * peer..][..4])
+        token_at(&self.numbers[station_token(index(peer)?)..])
     }
 
     /// The station's numbers, in the layout of version [`LAYOUT_VERSION`].
@@ -167,21 +156,16 @@ impl Station {
     /// let numbers = station.to_numbers();
     /// assert_eq!(numbers[..6], [1, 3, 10, 10, 0, 0]);
     /// assert_eq!(Station::from_numbers(&numbers)?, station);
-    /// # Ok::<(), quynhabet::Answer>(())
+    /// # Ok::<(), quynhabet::Refusal>(())
     /// ```
     pub fn to_numbers(&self) -> [u64; STATION_NUMBERS] {
         self.numbers
     }
 
-    /// The station of these numbers. Refusal: [`Answer::NotSound`].
-    pub fn from_numbers(numbers: &[u64; STATION_NUMBERS]) -> Result<Station, Answer> {
-        let mut station = Station { numbers: *numbers };
-        // A sound station refuses to draw 0 passes with answer 4; one that is not sound answers 1.
-        match station.draw(0) {
-            Err(Answer::BadAmount) => Ok(station),
-            Err(refusal) => Err(refusal),
-            Ok(_) => unreachable!("0 passes are never drawn"),
-        }
+    /// The station of these numbers. Refusal: [`Refusal::NotSound`].
+    pub fn from_numbers(numbers: &[u64; STATION_NUMBERS]) -> Result<Station, Refusal> {
+        ffi::station_check(numbers).done()?;
+        Ok(Station { numbers: *numbers })
     }
 
     /// The station as bytes, for saving: the layout's version, then the numbers, high byte first.
@@ -226,6 +210,11 @@ impl Station {
     }
 }
 
+/// A peer as an index, if a station has numbers for it.
+fn index(peer: u64) -> Option<usize> {
+    usize::try_from(peer).ok().filter(|_| peer < MOST_STATIONS)
+}
+
 impl fmt::Debug for Station {
     fn fmt(&self, f: &mut fmt::Formatter<'_>) -> fmt::Result {
         let peers = || 0..self.count();
@@ -250,7 +239,7 @@ pub enum LoadFault {
     /// The save has this layout version, and not [`LAYOUT_VERSION`].
     Version(u64),
     /// The numbers of the save are refused.
-    Refused(Answer),
+    Refused(Refusal),
 }
 
 impl fmt::Display for LoadFault {
@@ -262,7 +251,7 @@ impl fmt::Display for LoadFault {
             LoadFault::Version(version) => {
                 write!(f, "the save has layout version {version}, and not {LAYOUT_VERSION}")
             }
-            LoadFault::Refused(answer) => answer.fmt(f),
+            LoadFault::Refused(refusal) => refusal.fmt(f),
         }
     }
 }

@@ -3,17 +3,14 @@
 use crate::ffi;
 use crate::*;
 
-const VALUE_MAX: u64 = 16_000_000_000;
-const CLOCK_MAX: u64 = 4_294_967_295;
-
 /// Station 5 of 16, with a slot and a token for every other, and every number another one.
 fn full_numbers() -> [u64; STATION_NUMBERS] {
     let mut numbers = [0; STATION_NUMBERS];
-    numbers[..6].copy_from_slice(&[5, 16, VALUE_MAX, 1_000_000_000, CLOCK_MAX, CLOCK_MAX - 1]);
+    numbers[..6].copy_from_slice(&[5, 16, MOST_VALUE, MOST_INTAKE, LAST_CLOCK, LAST_CLOCK - 1]);
     for peer in (0..16).filter(|peer| *peer != 5) {
         let mark = 10 * peer as u64;
-        numbers[6 + 4 * peer..][..4].copy_from_slice(&[1, CLOCK_MAX, mark + 1, mark + 2]);
-        numbers[70 + 4 * peer..][..4].copy_from_slice(&[1, mark + 3, CLOCK_MAX, mark + 4]);
+        numbers[6 + 4 * peer..][..4].copy_from_slice(&[1, LAST_CLOCK, mark + 1, mark + 2]);
+        numbers[70 + 4 * peer..][..4].copy_from_slice(&[1, mark + 3, LAST_CLOCK, mark + 4]);
     }
     numbers
 }
@@ -34,8 +31,8 @@ fn busy_station() -> Station {
 }
 
 /// What the archive told of a refusal.
-fn refusal(answer: Answer) -> ffi::Told {
-    ffi::Told { answer: answer.number(), result: 0, rules: 0, opened: 0, made: 0 }
+fn refusal(refusal: Refusal) -> ffi::Told {
+    ffi::Told { answer: refusal.number(), result: 0, rules: 0, opened: 0, made: 0 }
 }
 
 #[test]
@@ -43,7 +40,7 @@ fn numbers_go_in_and_come_out() {
     let numbers = full_numbers();
     let station = Station::from_numbers(&numbers).unwrap();
     assert_eq!((station.number(), station.count()), (5, 16));
-    assert_eq!((station.value(), station.intake()), (VALUE_MAX, 1_000_000_000));
+    assert_eq!((station.value(), station.intake()), (MOST_VALUE, MOST_INTAKE));
     assert_eq!(station.source_clock(), SourceClock(u32::MAX));
     assert_eq!(station.destination_clock(), DestinationClock(u32::MAX - 1));
     for peer in (0..16).filter(|peer| *peer != 5) {
@@ -98,7 +95,7 @@ fn a_save_that_is_none_is_refused() {
     assert_eq!(fault(&other), LoadFault::Version(2));
     let mut other = save;
     other[15] = 3; // number 3 of 3
-    assert_eq!(fault(&other), LoadFault::Refused(Answer::NotSound));
+    assert_eq!(fault(&other), LoadFault::Refused(Refusal::NotSound));
 }
 
 #[test]
@@ -106,12 +103,20 @@ fn numbers_that_are_not_sound_are_refused() {
     for place in 0..STATION_NUMBERS {
         let mut numbers = full_numbers();
         numbers[place] = u64::MAX;
-        assert_eq!(Station::from_numbers(&numbers).unwrap_err(), Answer::NotSound, "place {place}");
+        assert_eq!(
+            Station::from_numbers(&numbers).unwrap_err(),
+            Refusal::NotSound,
+            "place {place}"
+        );
     }
     for place in 6..STATION_NUMBERS {
         let mut numbers = Station::fresh(0, 16).unwrap().to_numbers();
         numbers[place] = 1;
-        assert_eq!(Station::from_numbers(&numbers).unwrap_err(), Answer::NotSound, "place {place}");
+        assert_eq!(
+            Station::from_numbers(&numbers).unwrap_err(),
+            Refusal::NotSound,
+            "place {place}"
+        );
     }
 }
 
@@ -122,25 +127,25 @@ fn a_station_that_refuses_stays_as_it_was() {
     let own = station.record_for(0).unwrap();
     let far = Station::fresh(3, 4).unwrap().record_for(1).unwrap();
     let cut = &far[..29];
-    assert_eq!(station.add(0).unwrap_err(), Answer::BadAmount);
-    assert_eq!(station.add(1_000_000_001).unwrap_err(), Answer::BadAmount);
-    assert_eq!(station.add(1_000_000_000).unwrap_err(), Answer::IntakeFull);
-    assert_eq!(station.draw(0).unwrap_err(), Answer::BadAmount);
-    assert_eq!(station.draw(u64::MAX).unwrap_err(), Answer::BadAmount);
-    assert_eq!(station.record_for(3).unwrap_err(), Answer::NoStation);
-    assert_eq!(station.record_for(1).unwrap_err(), Answer::SameStation);
-    assert_eq!(station.receive(&[]).unwrap_err(), Answer::NoRecord);
-    assert_eq!(station.receive(cut).unwrap_err(), Answer::NoRecord);
-    assert_eq!(station.receive(&[&far[..], &[0]].concat()).unwrap_err(), Answer::NoRecord);
-    assert_eq!(station.receive(&far).unwrap_err(), Answer::NoStation);
-    assert_eq!(station.receive(&own).unwrap_err(), Answer::OtherStation);
+    assert_eq!(station.add(0).unwrap_err(), Refusal::BadAmount);
+    assert_eq!(station.add(MOST_AMOUNT + 1).unwrap_err(), Refusal::BadAmount);
+    assert_eq!(station.add(MOST_AMOUNT).unwrap_err(), Refusal::IntakeLimit);
+    assert_eq!(station.draw(0).unwrap_err(), Refusal::BadAmount);
+    assert_eq!(station.draw(u64::MAX).unwrap_err(), Refusal::BadAmount);
+    assert_eq!(station.record_for(3).unwrap_err(), Refusal::NotBelowCount);
+    assert_eq!(station.record_for(1).unwrap_err(), Refusal::SameStation);
+    assert_eq!(station.receive(&[]).unwrap_err(), Refusal::NoRecord);
+    assert_eq!(station.receive(cut).unwrap_err(), Refusal::NoRecord);
+    assert_eq!(station.receive(&[&far[..], &[0]].concat()).unwrap_err(), Refusal::NoRecord);
+    assert_eq!(station.receive(&far).unwrap_err(), Refusal::NotBelowCount);
+    assert_eq!(station.receive(&own).unwrap_err(), Refusal::ForAnother);
     assert_eq!(station.to_numbers(), before);
 }
 
 #[test]
 fn a_value_that_would_be_too_high_is_refused() {
     let mut numbers = busy_station().to_numbers();
-    numbers[2] = VALUE_MAX;
+    numbers[2] = MOST_VALUE;
     let mut station = Station::from_numbers(&numbers).unwrap();
     let token =
         Token { source_clock: SourceClock(0), destination_clock: DestinationClock(0), quantity: 1 };
@@ -153,8 +158,8 @@ fn a_value_that_would_be_too_high_is_refused() {
         slot: None,
         token: Some(token),
     };
-    assert_eq!(station.add(1).unwrap_err(), Answer::ValueTooHigh);
-    assert_eq!(station.receive(&message.write().unwrap()).unwrap_err(), Answer::ValueTooHigh);
+    assert_eq!(station.add(1).unwrap_err(), Refusal::ValueLimit);
+    assert_eq!(station.receive(&message.write().unwrap()).unwrap_err(), Refusal::ValueLimit);
     assert_eq!(station.to_numbers(), numbers);
 }
 
@@ -165,7 +170,8 @@ fn numbers_lent_that_are_not_sound_stay_as_they_were() {
     let before = numbers;
     let mut out = [7; RECORD_MAX];
     let record = Station::fresh(0, 3).unwrap().record_for(1).unwrap();
-    let wanted = refusal(Answer::NotSound);
+    let wanted = refusal(Refusal::NotSound);
+    assert_eq!(ffi::station_check(&numbers), wanted);
     assert_eq!(ffi::station_add(&mut numbers, 1), wanted);
     assert_eq!(ffi::station_draw(&mut numbers, 1), wanted);
     assert_eq!(ffi::station_write(&numbers, 0, &mut out), wanted);
@@ -176,11 +182,11 @@ fn numbers_lent_that_are_not_sound_stay_as_they_were() {
 #[test]
 fn numbers_to_be_filled_stay_as_they_were_on_a_refusal() {
     let mut station = [7; STATION_NUMBERS];
-    assert_eq!(ffi::station_fresh(0, 1, &mut station), refusal(Answer::NotSound));
-    assert_eq!(ffi::station_fresh(2, 2, &mut station), refusal(Answer::NoStation));
+    assert_eq!(ffi::station_fresh(0, 1, &mut station), refusal(Refusal::NotSound));
+    assert_eq!(ffi::station_fresh(2, 2, &mut station), refusal(Refusal::NotBelowCount));
     assert_eq!(station, [7; STATION_NUMBERS]);
     let mut message = [7; MESSAGE_NUMBERS];
-    assert_eq!(ffi::record_read(&[1, 0, 1], &mut message), refusal(Answer::NoRecord));
+    assert_eq!(ffi::record_read(&[1, 0, 1], &mut message), refusal(Refusal::NoRecord));
     assert_eq!(message, [7; MESSAGE_NUMBERS]);
 }
 
@@ -189,7 +195,7 @@ fn a_buffer_has_the_record_or_is_as_it_was() {
     let numbers = busy_station().to_numbers();
     for (to, len) in [(0, 49), (2, 68)] {
         let mut short = vec![7; len - 1];
-        assert_eq!(ffi::station_write(&numbers, to, &mut short), refusal(Answer::BufferTooShort));
+        assert_eq!(ffi::station_write(&numbers, to, &mut short), refusal(Refusal::ShortBuffer));
         assert_eq!(short, vec![7; len - 1]);
         let mut long = [7; RECORD_MAX];
         assert_eq!(ffi::station_write(&numbers, to, &mut long).done().unwrap().result, len as u64);
@@ -197,10 +203,10 @@ fn a_buffer_has_the_record_or_is_as_it_was() {
     }
     let sound = [0, 1, 10, 0, 0, 0, 0, 0, 0, 0, 0, 0, 0];
     let mut out = [7; 29];
-    assert_eq!(ffi::record_write(&sound, &mut out), refusal(Answer::BufferTooShort));
+    assert_eq!(ffi::record_write(&sound, &mut out), refusal(Refusal::ShortBuffer));
     let mut unsound = sound;
     unsound[12] = 1;
-    assert_eq!(ffi::record_write(&unsound, &mut out), refusal(Answer::NoRecord));
+    assert_eq!(ffi::record_write(&unsound, &mut out), refusal(Refusal::NoRecord));
     assert_eq!(out, [7; 29]);
 }
 
@@ -218,7 +224,7 @@ fn a_message_goes_through_its_record() {
     let mut message = Message {
         from: 15,
         to: 14,
-        value: VALUE_MAX,
+        value: MOST_VALUE,
         source_clock: SourceClock(u32::MAX),
         destination_clock: DestinationClock(8),
         slot: Some(Slot {
@@ -236,23 +242,34 @@ fn a_message_goes_through_its_record() {
     assert_eq!(record.len(), 68);
     assert_eq!(Message::read(&record).unwrap(), message);
     message.to = 15;
-    assert_eq!(message.write().unwrap_err(), Answer::NoRecord);
-    assert_eq!(Message::read(&record[..67]).unwrap_err(), Answer::NoRecord);
+    assert_eq!(message.write().unwrap_err(), Refusal::NoRecord);
+    assert_eq!(Message::read(&record[..67]).unwrap_err(), Refusal::NoRecord);
 }
 
 #[test]
-fn answers_and_rules_have_their_numbers() {
-    let known: Vec<Answer> = (0..20).filter_map(Answer::from_number).collect();
-    assert_eq!(known.len(), 15);
-    for (number, answer) in known.iter().enumerate() {
-        assert_eq!(answer.number(), number as u64);
+fn refusals_and_rules_have_their_numbers() {
+    assert_eq!(Refusal::from_number(0), None);
+    for number in 1..=14 {
+        let refusal = Refusal::from_number(number).unwrap();
+        assert_eq!(refusal.number(), number);
+        assert_ne!(refusal, Refusal::Other(number));
     }
-    assert_eq!(Answer::OtherStation.number(), 11);
+    assert_eq!(Refusal::from_number(11), Some(Refusal::ForAnother));
     assert_eq!(
-        Answer::NotSound.to_string(),
+        Refusal::NotSound.to_string(),
         "table or station lent is not sound, or a count is not 2 to 16"
     );
     assert_eq!(Rule::ALL.map(Rule::number), [1, 2, 3, 4, 5]);
+}
+
+#[test]
+fn an_answer_that_is_not_known_is_a_refusal() {
+    for number in [15, 20, u64::MAX] {
+        let told = ffi::Told { answer: number, result: 0, rules: 0, opened: 0, made: 0 };
+        let refusal = told.done().unwrap_err();
+        assert_eq!((refusal, refusal.number()), (Refusal::Other(number), number));
+        assert_eq!(refusal.to_string(), format!("refused with the unknown answer {number}"));
+    }
 }
 
 #[test]
@@ -261,4 +278,10 @@ fn a_report_names_the_rules_that_acted() {
     let report = Report::from_told(told);
     assert!(report.rules().eq([Rule::Fill, Rule::OpenSlot, Rule::MakeToken]));
     assert_eq!((report.filled(), report.opened(), report.made()), (Some(3), Some(2), Some(0)));
+}
+
+#[test]
+fn a_report_passes_over_rules_that_are_not_known() {
+    let told = ffi::Told { answer: 0, result: 0, rules: 2 + 32 + (1 << 63), opened: 0, made: 0 };
+    assert!(Report::from_told(told).rules().eq([Rule::DropSlot]));
 }
