@@ -83,14 +83,17 @@ static void receive_record(const char *what, uint64_t number, qb_told wanted) {
 
 /* The first record, byte by byte: station 0 with value 10 and fresh clocks, to station 1. */
 static void check_first_record(void) {
-    static const uint8_t wanted[30] = {1, 0, 1, 0, 2, 0, 1, 1, 3, 0, 8, 0, 0, 0, 0, 0, 0, 0, 10, 4, 0, 8};
+    static const uint8_t wanted[30] = {1, 0, 1, 0, 2, 0, 1, 1, 3, 0, 8,
+                                       0, 0, 0, 0, 0, 0, 0, 10, 4, 0, 8};
     uint64_t message[QB_MESSAGE_NUMBERS] = {0};
     uint8_t again[QB_RECORD_MAX];
     if (record_len != sizeof wanted) surprise("the first record's length");
     if (memcmp(record, wanted, sizeof wanted) != 0) surprise("the first record's bytes");
     check("read that record", qb_record_read(record, record_len, message), (qb_told){.result = 30});
-    if (message[QB_MESSAGE_TO] != 1 || message[QB_MESSAGE_VALUE] != 10) surprise("the message read");
-    check("write that message again", qb_record_write(message, again, sizeof again), (qb_told){.result = 30});
+    if (message[QB_MESSAGE_TO] != 1 || message[QB_MESSAGE_VALUE] != 10)
+        surprise("the message read");
+    check("write that message again", qb_record_write(message, again, sizeof again),
+          (qb_told){.result = 30});
     if (memcmp(again, wanted, sizeof wanted) != 0) surprise("the message written again");
 }
 
@@ -133,7 +136,7 @@ static void check_station(uint64_t number, uint64_t value, uint64_t source, uint
     if (s[QB_STATION_DESTINATION_CLOCK] != destination) surprise("the destination clock");
 }
 
-/* Station 1 has filled its slot for 0. Station 0 still stores its token for 1, with clocks 0 and 0. */
+/* Station 1 has filled its slot for 0. Station 0 still stores its token for 1, with clocks 0, 0. */
 static void check_held(void) {
     static const uint64_t nothing[4] = {0}, token[4] = {1, 0, 0, 5};
     uint64_t s[QB_STATION_NUMBERS];

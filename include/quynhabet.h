@@ -3,6 +3,26 @@
  *
  * The functions are proved in Rattle and come as the archive libquynhabet.a, for x86-64.
  * Beside them it needs only memcpy, which the C library has. A call takes about 8 KiB of stack.
+ * docs/FROM-C-AND-RUST.md has all of this at length.
+ *
+ * WHAT THE TRANSPORT OWES. A record arrives whole and unaltered, or not at all. A record has no
+ * check sum, and nothing here can see that one was changed or cut short: such bytes may be taken
+ * as another record, and then passes are made out of nothing or are gone. Use a transport that
+ * checks and hands over whole messages; where stations may be hostile, one that authenticates.
+ * Records that come twice, late, out of order or never do no such harm.
+ *
+ * SAVING. The 134 numbers of a station are what it keeps on disk.
+ *   - The state is saved before any record or drawn pass leaves the station.
+ *   - An older save is never loaded again. No two programs run the same station.
+ * Otherwise passes may be lost or doubled.
+ *
+ * WHAT IS PROVED. Each function tells and leaves exactly what its definition says, for any numbers
+ * and any bytes. That no pass is lost or doubled is proved of whole runs of a table of stations;
+ * for stations that are linked by records, as here, no theorem says it yet.
+ *
+ * WHAT A STATION DOES. It evens out: the one with less asks for half of the difference. No call
+ * moves a chosen amount, and 1 against 0 stays. The intake limit is for life. At a clock's end
+ * slots are opened, or tokens made, no more; the answer is still 0.
  *
  * THE LAYOUT, version 1. A station is 134 numbers of 64 bits:
  *
@@ -26,20 +46,20 @@
  * Later versions add numbers to a station. Keep QB_LAYOUT_VERSION in front of what is saved,
  * and load only numbers of the version that the program was built with.
  *
- * SAVING. The 134 numbers are what a station keeps on disk.
- *   - The state is saved before any record or drawn pass leaves the station.
- *   - An older save is never loaded again. No two programs run the same station.
- * Otherwise passes may be lost or doubled, and demand 3 is not claimed.
+ * ON THE WAY. To audit a lab, add up all values and the passes on the way: those of a token of
+ * station i for station j, as long as station j has a slot for station i with the same two clocks.
+ * A stored token that fits no such slot counts for nothing.
  *
- * WHAT THE CALLER OWES. Any numbers and any bytes are fine: they are used or refused.
- * 'Any input' stops at the boundary. The caller owes, and nothing here can test:
+ * WHAT THE CALLER OWES. Any numbers and any bytes may be given: they are used, or refused by a
+ * numbered answer that changes nothing lent. Not tested, and owed by the caller:
  *   - Pointers that are valid, not null (not even with a length of 0), and aligned for their type.
  *   - Arrays of 134 and 13 numbers that are really that long, and set: zeros will do for those
  *     that qb_station_fresh and qb_record_read fill, which a refusal leaves as they were.
  *   - Lengths that are true: record_len bytes can be read, out_len bytes can be written.
  *   - Buffers of one call that do not overlap.
  *   - No other thread that uses a buffer of the call while it runs.
- * The functions keep no state of their own and take no memory.
+ * The functions keep no state of their own and take no memory: different stations can be used from
+ * different threads.
  */
 #ifndef QUYNHABET_H
 #define QUYNHABET_H
@@ -133,20 +153,28 @@ qb_told qb_station_check(const uint64_t station[QB_STATION_NUMBERS]);
 /* Adds passes. Result: the new value. Refusals, in order: 1, 4, 5, 10. */
 qb_told qb_station_add(uint64_t station[QB_STATION_NUMBERS], uint64_t amount);
 
-/* Draws passes, at most the value. Result: what was taken, which may be 0. Refusals, in order: 1, 4. */
+/* Draws passes, at most the value. Result: what was taken, which may be 0.
+ * Refusals, in order: 1, 4. */
 qb_told qb_station_draw(uint64_t station[QB_STATION_NUMBERS], uint64_t amount);
 
-/* Writes the record for station `to`. Result: its length; bytes past it stay. Refusals, in order: 1, 2, 3, 14. */
-qb_told qb_station_write(const uint64_t station[QB_STATION_NUMBERS], uint64_t to, uint8_t *out, size_t out_len);
+/* Writes the record for station `to`. Result: its length; bytes past it stay.
+ * Refusals, in order: 1, 2, 3, 14. */
+qb_told qb_station_write(const uint64_t station[QB_STATION_NUMBERS], uint64_t to, uint8_t *out,
+                         size_t out_len);
 
-/* Takes a record by the five rules. Result: the amount filled, or 0. Refusals, in order: 1, 9, 2, 11, 10. */
-qb_told qb_station_receive(uint64_t station[QB_STATION_NUMBERS], const uint8_t *record, size_t record_len);
+/* Takes a record by the five rules. Result: the amount filled, or 0.
+ * Refusals, in order: 1, 9, 2, 11, 10. */
+qb_told qb_station_receive(uint64_t station[QB_STATION_NUMBERS], const uint8_t *record,
+                           size_t record_len);
 
 /* Reads a record as a message. Result: the record's length. Refusal: 9. */
-qb_told qb_record_read(const uint8_t *record, size_t record_len, uint64_t message[QB_MESSAGE_NUMBERS]);
+qb_told qb_record_read(const uint8_t *record, size_t record_len,
+                       uint64_t message[QB_MESSAGE_NUMBERS]);
 
-/* Writes a message as a record. Result: its length; bytes past it stay. Refusals, in order: 9, 14. */
-qb_told qb_record_write(const uint64_t message[QB_MESSAGE_NUMBERS], uint8_t *out, size_t out_len);
+/* Writes a message as a record. Result: its length; bytes past it stay.
+ * Refusals, in order: 9, 14. */
+qb_told qb_record_write(const uint64_t message[QB_MESSAGE_NUMBERS], uint8_t *out,
+                        size_t out_len);
 
 #ifdef __cplusplus
 }

@@ -1,8 +1,11 @@
-//! Stations that hand run passes to one another by records, over a network that loses, repeats,
-//! delays and reorders. No pass is lost or doubled.
+//! One station that hands run passes to others by records, over a network that loses, repeats,
+//! delays and reorders.
 //!
 //! The work is done by functions that are proved in Rattle and linked as `libquynhabet.a`. This
-//! package puts safe types over them and decides nothing itself.
+//! package puts safe types over them and decides nothing itself. What is proved is that each call
+//! tells and leaves exactly what its definition says. That no pass is lost or doubled is proved of
+//! whole runs of a table of stations; for stations that are linked by records, as here, no theorem
+//! says it yet. `docs/FROM-C-AND-RUST.md` has this at length.
 //!
 //! ```
 //! use quynhabet::{Refusal, Station};
@@ -30,14 +33,18 @@
 //! }
 //! ```
 //!
+//! # What the transport owes
+//!
+//! A record arrives whole and unaltered, or not at all. Nothing here can see that a record was
+//! changed or cut short; then passes may be made out of nothing or be gone. Use a transport that
+//! checks what it hands over, and that authenticates where stations may be hostile.
+//!
 //! # Saving
 //!
-//! A station keeps its state on disk, as [`Station::to_bytes`] gives it.
-//!
-//! - The state is saved before any record or drawn pass leaves the station.
-//! - An older save is never loaded again, and no two programs run the same station.
-//!
-//! Otherwise passes may be lost or doubled. The example `three_stations` shows both.
+//! A station keeps its state on disk, as [`Station::to_bytes`] gives it. It is saved before any
+//! record or drawn pass leaves the station, and an older save is never loaded again: the rule in
+//! full is in `docs/FROM-C-AND-RUST.md`, and the example `three_stations` shows what breaking it
+//! does.
 
 #![deny(missing_docs)]
 #![deny(unsafe_code)]
