@@ -1,5 +1,7 @@
 //! Random calls at one station, sound or not, by both sides.
 
+use std::collections::BTreeMap;
+
 use super::budget::Budget;
 use super::case::{self, Call, Case, Lent, ROOM_MOST};
 use super::random::Random;
@@ -28,7 +30,7 @@ pub fn compare(
     }
     let Counts { answers, rules } = counts;
     Outcome::Same(format!(
-        "calls: no difference in {}; answers 0 to 14 {answers:?}, rules 1 to 5 {rules:?}",
+        "calls: no difference in {}; answers {answers:?}, rules 1 to 5 {rules:?}",
         budget.so_far()
     ))
 }
@@ -52,16 +54,16 @@ pub fn shown(
     )
 }
 
-/// How often each answer was given and each rule acted.
+/// How often each answer was given, by its number, and each rule acted.
 #[derive(Default)]
 struct Counts {
-    answers: [u64; 15],
+    answers: BTreeMap<u64, u64>,
     rules: [u64; 5],
 }
 
 impl Counts {
     fn count(&mut self, lent: &Lent) {
-        self.answers[lent.told.answer as usize] += 1;
+        *self.answers.entry(lent.told.answer).or_default() += 1;
         for (place, count) in self.rules.iter_mut().enumerate() {
             *count += (lent.told.rules >> place) & 1;
         }
