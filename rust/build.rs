@@ -1,4 +1,5 @@
-//! Links the proved archive, from the folder that `QUYNHABET_LIB` names or from `../target/staticlib`.
+//! Links the proved archive, from the folder that `QUYNHABET_LIB` names or from
+//! `../target/staticlib`.
 
 use std::env;
 use std::path::PathBuf;

@@ -1,15 +1,18 @@
-# The lists of crates/demands/specs that speak of promises, Settled and Demand1, held against the promises that tools/promises.awk read. Each public function
-# has a row in Settled, and one in Demand1 if its result holds a field `answer`, itself or in a struct that it holds. A row's key is crate·function, or
-# crate·Type·method, with - for _; its binders are the parameters by their names, in their order; what it says is, in
+# The lists of crates/demands/specs that speak of promises, Settled and Demand1, held against the
+# promises that tools/promises.awk read. Each public function has a row in Settled, and one in
+# Demand1 if its result holds a field `answer`, itself or in a struct that it holds. A row's key is
+# crate·function, or crate·Type·method, with - for _; its binders are the parameters by their names,
+# in their order; what it says is, in
 #
 #     Settled    Settles PATH.ended (λ M 𝓤. PATH.clauses 𝓤) (λ κ. (a, (b, tt))) (λ κ r. r ≡ d a (now b)), where b is lent, or
 #                SettlesBoth PATH.ended (λ M 𝓤. PATH.clauses 𝓤) (λ κ. (a, (b, tt))) (λ κ e. now (e .1 .0)) (λ κ. P a (now b)), where b is lent to be changed;
 #                PATH is Rattle.crate.proofs.module.function, and e has what each parameter is at the end: e .0, e .1 .0, e .1 .1 .0, ..
 #     Demand1    F .. (d a b), or with r and b′ for binders too P a b r b′ → F .. r b′, where F is defined in Demand1
 #
-# and `d` or `P` is what the promise cites: imported in the list from the very module that the source imports it from, under whatever name. A function that
-# Demand1 has no row for is named there with the reason, "-- Not listed: `crate::function`. Why.". Fails also where a row is doubled or is no public
-# function's, where a list has no row, and where it has something that is not read so.
+# and `d` or `P` is what the promise cites: imported in the list from the very module that the
+# source imports it from, under whatever name. A function that Demand1 has no row for is named there
+# with the reason, "-- Not listed: `crate::function`. Why.". Fails also where a row is doubled or is
+# no public function's, where a list has no row, and where it has something that is not read so.
 
 FNR == 1 && FILENAME ~ /\.antt$/ { list = "" }
 

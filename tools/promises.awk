@@ -1,14 +1,19 @@
-# What every public function promises. Run with tools/listed.awk, by tools/listed, over the source files of all crates. Fails, with file, line and function,
-# where a public function (`pub fn`, `pub extern "C" fn`, in an `impl` too) has a requires, or has not one ensures of one of two forms:
+# What every public function promises. Run with tools/listed.awk, by tools/listed, over the source
+# files of all crates. Fails, with file, line and function, where a public function (`pub fn`, `pub
+# extern "C" fn`, in an `impl` too) has a requires, or has not one ensures of one of two forms:
 #
 #     λ r. ⌜ r ≡ d a (now (b .entry)) ⌝                      only where nothing is lent to be changed
 #     λ r. ⌜ P a (now (b .entry)) r (now (b .exit)) ⌝        with the later content of the `&mut` parameter, of which there is at most one
 #
-# where `d` or `P` is one name, imported from a specs module, and applied to all parameters in their order: to what one that is lent holds at entry, to any
-# other itself. It reads the layout of rt fmt: a head begins its line with `pub fn` or `pub extern "C" fn`, has in it only its parameters and its result, each
-# clause is a line of its own, and then comes a line that is the opening brace. A head, or something public, that it does not read so is a failure:
-# pub and fn on two lines, or two blanks apart; two functions on a line; another word before fn (pub(in ..), pub(super), const, unsafe, another extern, an
-# attribute); a line of comment in a head, or a comment by /*; a clause on the head's own line, or on two lines; no brace; a module in a module.
+# where `d` or `P` is one name, imported from a specs module, and applied to all parameters in their
+# order: to what one that is lent holds at entry, to any other itself. It reads the layout of rt
+# fmt: a head begins its line with `pub fn` or `pub extern "C" fn`, has in it only its parameters
+# and its result, each clause is a line of its own, and then comes a line that is the opening brace.
+# A head, or something public, that it does not read so is a failure:
+# pub and fn on two lines, or two blanks apart; two functions on a line; another word before fn
+# (pub(in ..), pub(super), const, unsafe, another extern, an attribute); a line of comment in a
+# head, or a comment by /*; a clause on the head's own line, or on two lines; no brace; a module in
+# a module.
 # `pub(crate) fn` is not public.
 
 function fault(where, what) {
@@ -32,7 +37,8 @@ function between(text, begin, end,    name) {
     return name ~ /^[^ (){}.;,@"]+$/ ? name : ""
 }
 
-# `use M.{a, b as c}`: what each name of the file stands for. A crate's own modules are named as another crate names them
+# `use M.{a, b as c}`: what each name of the file stands for. A crate's own modules are named as
+# another crate names them
 function imports(line,    module, n, i, item, pair) {
     if (line !~ /^use [^ {}]+\.\{[^{}]+\}$/) {
         fault(here(), "an import is not read: " line)
@@ -204,7 +210,8 @@ function ends_head(    key, member) {
     head = ""
 }
 
-# each parameter's name, as a clause writes it, and how it is passed: by value, lent, or lent to be changed
+# each parameter's name, as a clause writes it, and how it is passed: by value, lent, or lent to be
+# changed
 function reads_parameters(key,    text, i, part) {
     text = head
     sub(/^[^(]*\( */, "", text)
@@ -222,7 +229,8 @@ function reads_parameters(key,    text, i, part) {
 
 # ---- its promise
 
-# the parameters in their order, each after a blank, and one that is lent between a beginning and an end
+# the parameters in their order, each after a blank, and one that is lent between a beginning and an
+# end
 function arguments(key, begin, end,    i, text) {
     for (i = 1; i <= count[key]; i++) text = text " " (how[key, i] == "value" ? parameter[key, i] : begin parameter[key, i] end)
     return text

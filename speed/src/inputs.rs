@@ -90,7 +90,8 @@ pub fn stations(random: &mut Random, n: usize) -> Vec<([u64; 134], Vec<u8>)> {
     all
 }
 
-/// Steps in a mix: mostly sends and deliveries, also late and repeated ones, adds, draws and losses.
+/// Steps in a mix: mostly sends and deliveries, also late and repeated ones, adds, draws and
+/// losses.
 pub fn steps(random: &mut Random, count: u64, n: usize) -> Vec<u64> {
     let mut codes = Vec::new();
     for _ in 0..n {

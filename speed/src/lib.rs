@@ -1,4 +1,5 @@
-//! What the proved code is timed against: the same operations with the same tests, written by hand and in place.
+//! What the proved code is timed against: the same operations with the same tests, written by hand
+//! and in place.
 
 pub mod record;
 pub mod script;

@@ -1,4 +1,5 @@
-//! Times the proved code and the code by hand on the same input, turn by turn in one run, and prints a table of ratios.
+//! Times the proved code and the code by hand on the same input, turn by turn in one run, and
+//! prints a table of ratios.
 
 mod inputs;
 mod proved;

@@ -1,4 +1,5 @@
-//! Records and one station's receiving, written by hand on the numbers themselves: what the proved functions are timed against.
+//! Records and one station's receiving, written by hand on the numbers themselves: what the proved
+//! functions are timed against.
 
 /// The most that a value or a quantity may be.
 pub const MOST_VALUE: u64 = 16_000_000_000;

@@ -1,4 +1,5 @@
-//! A table of stations changed in place, tested for soundness before every step or once before a run: what the proved table is timed against.
+//! A table of stations changed in place, tested for soundness before every step or once before a
+//! run: what the proved table is timed against.
 
 /// A slot or a token.
 #[derive(Clone, Copy)]
@@ -84,7 +85,8 @@ impl Station {
             })
     }
 
-    /// The five rules: the amount filled, the rules that acted as a sum of 1, 2, 4, 8, 16, and the quantities of a slot opened and a token made; or the refusal 10.
+    /// The five rules: the amount filled, the rules that acted as a sum of 1, 2, 4, 8, 16, and the
+    /// quantities of a slot opened and a token made; or the refusal 10.
     fn receive(&mut self, m: &Message) -> Result<[u64; 4], u8> {
         let j = m.from;
         let mut filled = 0;
@@ -180,7 +182,8 @@ impl Table {
         self.step_of_sound(kind, a, b).map(|told| told[0])
     }
 
-    /// One step, of three numbers: 0 add, 1 draw, 2 send, 3 deliver, 4 lose. Its result and its report.
+    /// One step, of three numbers: 0 add, 1 draw, 2 send, 3 deliver, 4 lose. Its result and its
+    /// report.
     fn step_of_sound(&mut self, kind: u64, a: u64, b: u64) -> Result<[u64; 4], u8> {
         let plain = |result| [result, 0, 0, 0];
         match kind {

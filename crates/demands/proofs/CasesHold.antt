@@ -1,4 +1,5 @@
--- Every entry of the lists gives what it has to give, and no wrong outcome is what is promised. Assumes nothing.
+-- Every entry of the lists gives what it has to give, and no wrong outcome is what is promised.
+-- Assumes nothing.
 use Prim.Native.Nat.{ℕ}
 use mathlib.Core.Path.{_≡_, refl}
 use mathlib.Core.List.{[], _∷_, _++_, map}

@@ -1,4 +1,5 @@
--- Demand 1 holds: every refusal has result 0, an empty report, and leaves what was lent. Assumes nothing.
+-- Demand 1 holds: every refusal has result 0, an empty report, and leaves what was lent. Assumes
+-- nothing.
 use Prim.Native.Nat.{ℕ, zero, suc}
 use mathlib.Core.Path.{_≡_, refl, sym}
 use mathlib.Core.Bool.{Bool, true, false, cond}

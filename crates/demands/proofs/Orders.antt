@@ -1,4 +1,5 @@
--- The lists of refusals have the printed orders, whatever they are asked of; and each answer is 0 or a number of its list. Assumes nothing.
+-- The lists of refusals have the printed orders, whatever they are asked of; and each answer is 0
+-- or a number of its list. Assumes nothing.
 use Prim.Native.Nat.{ℕ, zero, suc, _<_}
 use mathlib.Core.Path.{_≡_, refl, ap, sym, _∙_}
 use mathlib.Core.Bool.{Bool, true, false, cond, not}

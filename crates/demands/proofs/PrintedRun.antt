@@ -1,5 +1,6 @@
--- What a script that starts prints is the log of its steps and the closing of the table that they leave, and by demand 3 the printed total is what the log
--- adds less what it draws. Assumes nothing.
+-- What a script that starts prints is the log of its steps and the closing of the table that they
+-- leave, and by demand 3 the printed total is what the log adds less what it draws. Assumes
+-- nothing.
 use Prim.Native.Nat.{ℕ, zero, suc, _+_}
 use mathlib.Core.Path.{_≡_, refl, ap, sym, _∙_}
 use mathlib.Core.List.{List, [], _∷_, _++_, append-assoc}

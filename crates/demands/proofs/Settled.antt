@@ -1,5 +1,6 @@
--- Every contract is the promise that the list says, since both compute to the same, and every promise settles its outcome: one that the outcome is what a
--- definition gives does, and so does one of two such parts. Assumes nothing.
+-- Every contract is the promise that the list says, since both compute to the same, and every
+-- promise settles its outcome: one that the outcome is what a definition gives does, and so does
+-- one of two such parts. Assumes nothing.
 use Prim.Native.Nat.{ℕ}
 use mathlib.Core.Path.{_≡_, refl, sym, _∙_}
 use mathlib.Core.List.{List}

@@ -1,5 +1,6 @@
--- Bytes, stations and tables share their definitions: receiving a message's record is a delivery of it, and the record that a station writes is the
--- writing of the message that a send places. Assumes nothing.
+-- Bytes, stations and tables share their definitions: receiving a message's record is a delivery of
+-- it, and the record that a station writes is the writing of the message that a send places.
+-- Assumes nothing.
 use Prim.Native.Nat.{ℕ, _<_}
 use mathlib.Core.Path.{_≡_, ap}
 use mathlib.Core.Bool.{true}

@@ -1,4 +1,5 @@
--- The worked script, as its own bytes, prints the printed output, as its own bytes. Assumes nothing.
+-- The worked script, as its own bytes, prints the printed output, as its own bytes. Assumes
+-- nothing.
 use mathlib.Core.Path.{_≡_, refl}
 use Rattle.handshake.specs.Sums.{sumBelow}
 use Rattle.rules.specs.Below.{allBelow}

@@ -1,4 +1,5 @@
--- Cases at the bounds: of each rule the clock or the number at which it no longer acts, of each number its last allowed and its first that is not.
+-- Cases at the bounds: of each rule the clock or the number at which it no longer acts, of each
+-- number its last allowed and its first that is not.
 use Prim.Native.Nat.{ℕ}
 use mathlib.Core.List.{List, [], _∷_}
 use Rattle.rules.specs.declared.held.HeldSlot.the-variants.{NoSlot}
@@ -70,7 +71,8 @@ boundCases =
       gives = delivered (station1 0 0 0 NoSlot NoToken) (from0 2 0 0 NoSlot NoToken);
       wanted = (0 ∷ 0 ∷ []) ∷ (3 ∷ []) ∷ (1 ∷ 0 ∷ []) ∷ (0 ∷ 0 ∷ 1 ∷ []) ∷ (0 ∷ 0 ∷ 1 ∷ []) ∷ [] ∷ [];
     }
-    -- rule 3: the destination clock one before its end, the source clock at its end; and the destination clock at its end
+    -- rule 3: the destination clock one before its end, the source clock at its end; and the
+    -- destination clock at its end
     ∷ record {
       gives = delivered (station1 0 4294967295 4294967294 NoSlot NoToken) (from0 10 7 0 NoSlot NoToken);
       wanted = (0 ∷ 0 ∷ []) ∷ (3 ∷ []) ∷ (5 ∷ 0 ∷ []) ∷ (0 ∷ 4294967295 ∷ 4294967295 ∷ []) ∷ (7 ∷ 4294967294 ∷ 5 ∷ []) ∷ [] ∷ [];
@@ -79,7 +81,8 @@ boundCases =
       gives = delivered (station1 0 0 4294967295 NoSlot NoToken) (from0 10 7 0 NoSlot NoToken);
       wanted = (0 ∷ 0 ∷ []) ∷ [] ∷ (0 ∷ 0 ∷ []) ∷ (0 ∷ 0 ∷ 4294967295 ∷ []) ∷ [] ∷ [] ∷ [];
     }
-    -- rule 4: the message's destination clock is the token's, its source clock above, and the token stays; a destination clock one above, and it goes
+    -- rule 4: the message's destination clock is the token's, its source clock above, and the token
+    -- stays; a destination clock one above, and it goes
     ∷ record {
       gives = delivered (station1 0 1 0 NoSlot (token 0 2 5)) (from0 0 3 2 NoSlot NoToken);
       wanted = (0 ∷ 0 ∷ []) ∷ [] ∷ (0 ∷ 0 ∷ []) ∷ (0 ∷ 1 ∷ 0 ∷ []) ∷ [] ∷ (0 ∷ 2 ∷ 5 ∷ []) ∷ [];
@@ -88,7 +91,8 @@ boundCases =
       gives = delivered (station1 0 1 0 NoSlot (token 0 2 5)) (from0 0 0 3 NoSlot NoToken);
       wanted = (0 ∷ 0 ∷ []) ∷ (4 ∷ []) ∷ (0 ∷ 0 ∷ []) ∷ (0 ∷ 1 ∷ 0 ∷ []) ∷ [] ∷ [] ∷ [];
     }
-    -- rule 5: the source clock one before its end, with the slot's clocks in the token, which replaces the one that stood there; and at its end
+    -- rule 5: the source clock one before its end, with the slot's clocks in the token, which
+    -- replaces the one that stood there; and at its end
     ∷ record {
       gives = delivered (station1 9 4294967294 3 NoSlot (token 0 2 1)) (from0 0 0 9 (slot 4294967294 8 5) NoToken);
       wanted = (0 ∷ 0 ∷ []) ∷ (5 ∷ []) ∷ (0 ∷ 5 ∷ []) ∷ (4 ∷ 4294967295 ∷ 3 ∷ []) ∷ [] ∷ (4294967294 ∷ 8 ∷ 5 ∷ []) ∷ [];
@@ -146,7 +150,8 @@ boundCases =
           ∷ [];
       wanted = (8 ∷ 7 ∷ []) ∷ (8 ∷ 7 ∷ []) ∷ [];
     }
-    -- a token of 5 with a slot for it at its destination is on the way, and not with a slot for it at its maker
+    -- a token of 5 with a slot for it at its destination is on the way, and not with a slot for it
+    -- at its maker
     ∷ record {
       gives = (onTheWay
           (putStation (seated (station1 0 1 0 NoSlot (token 0 0 5))) 0

@@ -1,4 +1,5 @@
--- The cases at the edges that are to be proved, each as what the entry points' definitions give and what they have to give.
+-- The cases at the edges that are to be proved, each as what the entry points' definitions give and
+-- what they have to give.
 use Prim.Native.Nat.{ℕ}
 use mathlib.Core.List.{List, [], _∷_, _++_}
 use Rattle.rules.specs.declared.held.HeldSlot.the-variants.{NoSlot}
@@ -69,7 +70,8 @@ cases =
       gives = numbersOf (again (station1 2 0 1 (slot 0 0 5) NoToken) (from0 3 1 0 NoSlot (token 0 0 5)));
       wanted = (0 ∷ 0 ∷ []) ∷ [] ∷ (0 ∷ 0 ∷ []) ∷ (7 ∷ 0 ∷ 1 ∷ []) ∷ [] ∷ [] ∷ [];
     }
-    -- slot (0,0), a message with source clock 1 and no token, values equal: slot dropped, none opened
+    -- slot (0,0), a message with source clock 1 and no token, values equal: slot dropped, none
+    -- opened
     ∷ record {
       gives = numbersOf (once (station1 4 0 1 (slot 0 0 5) NoToken) (from0 4 1 0 NoSlot NoToken));
       wanted = (0 ∷ 0 ∷ []) ∷ (2 ∷ []) ∷ (0 ∷ 0 ∷ []) ∷ (4 ∷ 0 ∷ 1 ∷ []) ∷ [] ∷ [] ∷ [];

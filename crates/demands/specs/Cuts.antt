@@ -1,4 +1,5 @@
--- A record cut just after a field may still read as a record: this is not detected, and said here so that nobody leans on it.
+-- A record cut just after a field may still read as a record: this is not detected, and said here
+-- so that nobody leans on it.
 use Prim.Native.Nat.{ℕ}
 use mathlib.Core.List.{List, [], _∷_, map}
 use lib.ListN.{take}

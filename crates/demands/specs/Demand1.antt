@@ -1,12 +1,17 @@
--- Demand 1, as one list: what a refusal is, for each public function that has an answer. Where the answer is not 0, the result is 0, the report is empty, and
--- everything lent is as it was; a refused making or reading hands back every number 0 and nothing held. The numbers are the answers that can occur, in their
--- order. It is stated of the definitions that the promises cite, applied to the parameters by their names: `tools/listed` holds each row against the source.
--- Not listed: `station::count_is_sound`, `station::station_is_sound`, `station::message_is_sound`, `table::table_is_sound`. They are tests, and refuse nothing.
--- Not listed: `rules::clocks_agree`, `rules::SourceClock::in_range`, `rules::DestinationClock::in_range`. They are tests too.
--- Not listed: `rules::SourceClock::is_above`, `rules::DestinationClock::is_above`. They compare, and refuse nothing.
--- Not listed: `station::blank_station`, `rules::no_message`, `rules::no_report`. They make what they are told to, and refuse nothing.
--- Not listed: `rules::rules_of`, `table::numbers_for`. They tell in numbers what they are given, and refuse nothing.
--- Not listed: `measure::qm_run`, `measure::qm_last_result`. They have no answer: they are runs of steps for the benchmark.
+-- Demand 1, as one list: what a refusal is, for each public function that has an answer. Where the
+-- answer is not 0, the result is 0, the report is empty, and everything lent is as it was; a
+-- refused making or reading hands back every number 0 and nothing held. The numbers are the answers
+-- that can occur, in their order. It is stated of the definitions that the promises cite, applied
+-- to the parameters by their names: `tools/listed` holds each row against the source.
+-- Not listed: `station::count_is_sound`, `station::station_is_sound`. They are tests.
+-- Not listed: `station::message_is_sound`, `table::table_is_sound`. They are tests.
+-- Not listed: `rules::clocks_agree`, `rules::SourceClock::in_range`. They are tests.
+-- Not listed: `rules::DestinationClock::in_range`. It is a test.
+-- Not listed: `rules::SourceClock::is_above`, `rules::DestinationClock::is_above`. They compare.
+-- Not listed: `station::blank_station`, `rules::no_message`. They make what they are told to.
+-- Not listed: `rules::no_report`. It makes what it is told to.
+-- Not listed: `rules::rules_of`, `table::numbers_for`. They tell what they are given in numbers.
+-- Not listed: `measure::qm_run`, `measure::qm_last_result`. They have no answer: runs to be timed.
 use Prim.Native.Nat.{ℕ}
 use mathlib.Core.Path.{_≡_}
 use mathlib.Core.Bool.{true}
@@ -81,7 +86,8 @@ RefusedAs s r = r .answer ≢ done → (r .result ≡ 0) × (r .report ≡ noRep
 abbrev pub RefusedAsTable : Table → Stepped → Type 0
 RefusedAsTable t r = r .answer ≢ done → (r .result ≡ 0) × (r .report ≡ noReport) × (r .table ≡ t)
 
--- a refused run of steps: result 0, the table is this one, and what was lent to be told into is as it was
+-- a refused run of steps: result 0, the table is this one, and what was lent to be told into is as
+-- it was
 abbrev pub RefusedRan : Table → List ℕ → Ran → List ℕ → Type 0
 RefusedRan t before r after = r .answer ≢ done → (r .result ≡ 0) × (r .table ≡ t) × (after ≡ before)
 
@@ -110,7 +116,8 @@ RefusedPool before r after = Refused (r .answer) (r .result) before after
 abbrev pub RefusedPooled : List Place → Pooled → Type 0
 RefusedPooled before r = RefusedPool before (r .told) (r .pool)
 
--- where all that crosses is numbers: result 0, an empty report, and what was lent to be changed is as it was
+-- where all that crosses is numbers: result 0, an empty report, and what was lent to be changed is
+-- as it was
 abbrev pub RefusedNumbers : List ℕ → Told → List ℕ → Type 0
 RefusedNumbers before r after = r .answer ≢ done → (r ≡ plainTold (r .answer) 0) × (after ≡ before)
 

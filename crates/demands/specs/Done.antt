@@ -1,4 +1,5 @@
--- For each entry point and each step an input for which its answer is 0: no build that refuses everything keeps its promise.
+-- For each entry point and each step an input for which its answer is 0: no build that refuses
+-- everything keeps its promise.
 use Prim.Native.Nat.{ℕ}
 use mathlib.Core.List.{List, [], _∷_}
 use lib.ListN.{replicate}

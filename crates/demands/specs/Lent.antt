@@ -6,7 +6,8 @@ use Rattle.record.specs.declared.reading.Reading.{Reading}
 use Rattle.record.specs.Layout.{bytesOf}
 use Rattle.record.specs.Reading.{readOf}
 
--- it is what reading gives, and where the bytes are accepted they are what writing their message gives
+-- it is what reading gives, and where the bytes are accepted they are what writing their message
+-- gives
 pub record ReadsLent (bytes : List ℕ) (r : Reading) : Type 0 where
   pub reads : r ≡ readOf bytes
   pub is-written : r .answer ≡ 0 → bytesOf (r .message) ≡ bytes

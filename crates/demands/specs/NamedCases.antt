@@ -1,5 +1,5 @@
--- Cases for one condition each, where a condition that is a little off would give another number: a bound that is met, the other clock, an answer in
--- another's place, a byte.
+-- Cases for one condition each, where a condition that is a little off would give another number: a
+-- bound that is met, the other clock, an answer in another's place, a byte.
 use Prim.Native.Nat.{ℕ}
 use mathlib.Core.List.{List, [], _∷_, _++_, map}
 use Rattle.rules.specs.declared.held.HeldSlot.{HeldSlot}
@@ -89,17 +89,20 @@ resultsOf steps = map (λ (x : Line). x .result) (logOf stepOf (freshOf 2 .table
 
 abbrev pub namedCases : List Case
 namedCases =
-    -- value 2, slot of 5, a message with value 13 and the token of 5: filled to 7, and a slot of 3 opened, not of 5
+    -- value 2, slot of 5, a message with value 13 and the token of 5: filled to 7, and a slot of 3
+    -- opened, not of 5
     record {
       gives = numbersOf (receiveOf (station1 2 0 1 (slot 0 0 5) NoToken) (from0 13 1 0 NoSlot (token 0 0 5)));
       wanted = (0 ∷ 5 ∷ []) ∷ (1 ∷ 3 ∷ []) ∷ (3 ∷ 0 ∷ []) ∷ (7 ∷ 0 ∷ 2 ∷ []) ∷ (1 ∷ 1 ∷ 3 ∷ []) ∷ [] ∷ [];
     }
-    -- for a station at the count, or above it, which is also for another station: 2; from one at the count and for another station: 2
+    -- for a station at the count, or above it, which is also for another station: 2; from one at
+    -- the count and for another station: 2
     ∷ record {
       gives = answersTo (between 0 3) ∷ answersTo (between 0 15) ∷ answersTo (between 3 0) ∷ [];
       wanted = (2 ∷ 2 ∷ []) ∷ (2 ∷ 2 ∷ []) ∷ (2 ∷ 2 ∷ []) ∷ [];
     }
-    -- for another station of the table: 11; for this station, from one at the count: 2; for this station: done
+    -- for another station of the table: 11; for this station, from one at the count: 2; for this
+    -- station: done
     ∷ record {
       gives = answersTo (between 0 2) ∷ answersTo (between 3 1) ∷ answersTo (between 2 1) ∷ [];
       wanted = (11 ∷ 11 ∷ []) ∷ (2 ∷ 2 ∷ []) ∷ (0 ∷ 0 ∷ []) ∷ [];

@@ -1,5 +1,5 @@
--- The numbers of each list of refusals, from which an answer is computed, beside the order that document 01 prints for it; and what each entry point and step
--- can then answer.
+-- The numbers of each list of refusals, from which an answer is computed, beside the order that
+-- document 01 prints for it; and what each entry point and step can then answer.
 use Prim.Native.Nat.{ℕ}
 use mathlib.Core.List.{List, [], _∷_, List·Memᴰ}
 use Rattle.rules.specs.declared.message.Message.{Message}
@@ -61,7 +61,8 @@ orders s t m x pool run bytes i j k =
     -- reading a record, the sum on the way
     ∷ order (readRefusals bytes) (9 ∷ [])
     ∷ order (sumRefusals t) (1 ∷ [])
-    -- where no order is printed it is that of the whole without what is not looked at. Receiving a message by value, and showing one: no buffer
+    -- where no order is printed it is that of the whole without what is not looked at. Receiving a
+    -- message by value, and showing one: no buffer
     ∷ order (receiveRefusals s m) (1 ∷ 9 ∷ 2 ∷ 11 ∷ 10 ∷ [])
     ∷ order (showRefusals s i) (1 ∷ 2 ∷ 3 ∷ [])
     -- send and lose on a lent pool: no stations
@@ -71,7 +72,8 @@ orders s t m x pool run bytes i j k =
     ∷ order (takeRefusals x m) (1 ∷ 9 ∷ 10 ∷ [])
     ∷ order (addToRefusals i j k) (1 ∷ 4 ∷ 5 ∷ 10 ∷ [])
     ∷ order (drawFromRefusals i j k) (1 ∷ 4 ∷ [])
-    -- a script: an overlong one is tested first, then its first line, then the count; and the two calls that put its output
+    -- a script: an overlong one is tested first, then its first line, then the count; and the two
+    -- calls that put its output
     ∷ order (startRefusals bytes) (13 ∷ 12 ∷ 1 ∷ [])
     ∷ order (putRefusals bytes) (14 ∷ [])
     ∷ order (fillRefusals run i) (1 ∷ 14 ∷ [])

@@ -1,5 +1,7 @@
--- What a script prints, told as a run: its lines as steps, the log of those steps, and the passes that the log adds and draws against the printed total.
--- `outputOf` is what the bench program prints; the log, and what is counted from it, are those of demand 3.
+-- What a script prints, told as a run: its lines as steps, the log of those steps, and the passes
+-- that the log adds and draws against the printed total.
+-- `outputOf` is what the bench program prints; the log, and what is counted from it, are those of
+-- demand 3.
 use Prim.Native.Nat.{ℕ, zero, suc, _+_, _≤_}
 use mathlib.Core.Path.{_≡_}
 use mathlib.Core.List.{List, [], _∷_, _++_}
@@ -19,7 +21,8 @@ use Rattle.script.specs.Decimal.{says}
 use Rattle.script.specs.Script.{mostBytes, closing, outputOf}
 use Rattle.runs.specs.Runs.{Line, logOf, tableAfter, added, drawn}
 
--- the lines in these bytes, at most so many: lines end in byte 10, and a last line with at least one byte needs none
+-- the lines in these bytes, at most so many: lines end in byte 10, and a last line with at least
+-- one byte needs none
 unfoldable pub linesIn : ℕ → List ℕ → List Asked
 linesIn zero rest = []
 linesIn (suc most) [] = []
@@ -31,7 +34,8 @@ stepsAmong [] = []
 stepsAmong (NoStep ∷ lines) = stepsAmong lines
 stepsAmong (OneStep step ∷ lines) = step ∷ stepsAmong lines
 
--- what is printed of lines, numbered from n: of one that cannot be read 12 and 0; of a step the answer and the result in the log's next line
+-- what is printed of lines, numbered from n: of one that cannot be read 12 and 0; of a step the
+-- answer and the result in the log's next line
 unfoldable pub said : ℕ → List Asked → List Line → List ℕ
 said n [] log = []
 said n (NoStep ∷ lines) log = says n badLine 0 ++ said (n + 1) lines log
@@ -39,7 +43,8 @@ said n (OneStep step ∷ lines) (x ∷ log) = says n (x .answer) (x .result) ++ 
 -- not met with: a log has a line for each step
 said n (OneStep step ∷ lines) [] = []
 
--- a script starts if it is not too long and its first line is `stations` with a count that a table can have
+-- a script starts if it is not too long and its first line is `stations` with a count that a table
+-- can have
 pub record Starts (script : List ℕ) (count : ℕ) : Type 0 where
   pub size : length script ≤ mostBytes
   pub first : stationsOf (upTo 10 script) ≡ Reads count
@@ -57,8 +62,10 @@ abbrev pub lastTable : List ℕ → ℕ → Table
 lastTable script count = tableAfter stepOf (freshOf count .table) (stepsAmong (linesOf script))
 
 pub record PrintedRun (script : List ℕ) (count : ℕ) : Type 0 where
-  -- All that is printed is the log, line by line, and the closing of the table that the steps leave.
+  -- All that is printed is the log, line by line, and the closing of the table that the steps
+  -- leave.
   pub prints : outputOf script ≡ said 1 (linesOf script) (scriptLog script count) ++ closing (lastTable script count)
-  -- The closing's last line is `total` and the number `atStations + onTheWay` of that table. It equals the amounts of the adds answered 0 less the printed
-  -- results of the draws. (Written with a sum, so that nothing is cut off at 0.)
+  -- The closing's last line is `total` and the number `atStations + onTheWay` of that table. It
+  -- equals the amounts of the adds answered 0 less the printed results of the draws. (Written with
+  -- a sum, so that nothing is cut off at 0.)
   pub total : let t = lastTable script count in let log = scriptLog script count in atStations t + onTheWay t + drawn log ≡ added log

@@ -46,7 +46,8 @@ abbrev pub tokenNumbers : HeldToken → List ℕ
 tokenNumbers NoToken = []
 tokenNumbers (OneToken t) = t .source .0 ∷ t .destination .0 ∷ t .quantity ∷ []
 
--- answer and result; the rules that acted; the quantities opened and made; value and clocks; the slot and the token for station 0
+-- answer and result; the rules that acted; the quantities opened and made; value and clocks; the
+-- slot and the token for station 0
 abbrev pub numbersOf : Outcome → List (List ℕ)
 numbersOf r =
     (r .answer ∷ r .result ∷ [])

@@ -1,4 +1,5 @@
--- For each public promise wrong outcomes that it rules out: what it promises at a sample, and what a wrong build would give there.
+-- For each public promise wrong outcomes that it rules out: what it promises at a sample, and what
+-- a wrong build would give there.
 use Prim.Native.Nat.{ℕ}
 use mathlib.Core.Bool.{Bool, true, false, _&&_, not}
 use mathlib.Core.List.{List, [], _∷_, _++_}
@@ -116,7 +117,8 @@ wrongs =
       promised = wrote (writeForAnswer gave 0 49) (bytesOf (messageFor gave 0)) (replicate 49 7);
       wrong = (0 ∷ 0 ∷ []) ++ bytesOf (messageFor gave 0);
     }
-    -- receive_bytes: takes a record with a byte behind it; asks for a record before it asks for a sound station
+    -- receive_bytes: takes a record with a byte behind it; asks for a record before it asks for a
+    -- sound station
     ∷ record { promised = flat (numbersOf (receiveBytesOf asked (bytesOf pays ++ (0 ∷ [])))); wrong = flat (numbersOf (receiveOf asked pays)) }
     ∷ record { promised = stockOf (receiveBytesOf (blank 0 0) []); wrong = 9 ∷ 0 ∷ 0 ∷ 0 ∷ [] }
     -- station_is_sound: takes a station with a token for itself; refuses a value of 16,000,000,000

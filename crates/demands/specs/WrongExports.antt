@@ -27,7 +27,8 @@ wrongExports =
     -- qb_station_fresh: leaves what was lent; hands back every number 0 where it is refused
     record { promised = told (freshBy 1 2 (sevens 134)); wrong = 0 ∷ 0 ∷ 0 ∷ 7 ∷ 7 ∷ 7 ∷ 7 ∷ 7 ∷ 7 ∷ [] }
     ∷ record { promised = told (freshBy 2 2 (sevens 134)); wrong = 2 ∷ 0 ∷ 0 ∷ 0 ∷ 0 ∷ 0 ∷ 0 ∷ 0 ∷ 0 ∷ [] }
-    -- qb_station_check: takes numbers in a slot that is not held; takes a value above the limit; refuses a sound station; tells the value
+    -- qb_station_check: takes numbers in a slot that is not held; takes a value above the limit;
+    -- refuses a sound station; tells the value
     ∷ record { promised = checked (set three 7 1); wrong = 0 ∷ 0 ∷ [] }
     ∷ record { promised = checked (set three 2 16000000001); wrong = 0 ∷ 0 ∷ [] }
     ∷ record { promised = checked three; wrong = 1 ∷ 0 ∷ [] }

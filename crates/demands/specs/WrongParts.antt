@@ -40,7 +40,8 @@ wrongParts =
     -- run: does a step that there is no room to tell; does a step of which a number is missing
     ∷ record { promised = ran sent adds (sevens 9); wrong = (0 ∷ 2 ∷ 21 ∷ 0 ∷ 15 ∷ 0 ∷ 0 ∷ 0 ∷ []) ++ sevens 4 }
     ∷ record { promised = ran sent (0 ∷ 0 ∷ 5 ∷ 3 ∷ 0 ∷ []) (sevens 10); wrong = 0 ∷ 2 ∷ 15 ∷ 0 ∷ 15 ∷ 0 ∷ 0 ∷ 0 ∷ 0 ∷ 0 ∷ 4 ∷ 5 ∷ 0 ∷ [] }
-    -- run: of a table that is not sound it changes something; tells something; does nothing and answers 0
+    -- run: of a table that is not sound it changes something; tells something; does nothing and
+    -- answers 0
     ∷ record { promised = ran unsound adds (sevens 10); wrong = (1 ∷ 0 ∷ 5 ∷ []) ++ sevens 10 }
     ∷ record { promised = ran unsound adds (sevens 10); wrong = (1 ∷ 0 ∷ 0 ∷ 1 ∷ 0 ∷ 0 ∷ 0 ∷ 0 ∷ []) ++ sevens 5 }
     ∷ record { promised = ran unsound adds (sevens 10); wrong = (0 ∷ 0 ∷ 0 ∷ []) ++ sevens 10 }

@@ -60,7 +60,8 @@ wrongTables =
     -- step: a delivery that opens no slot; a delivery that takes the message away
     ∷ record { promised = seen (stepOf sent (Deliver 0)); wrong = 0 ∷ 0 ∷ 0 ∷ 1 ∷ 0 ∷ [] }
     ∷ record { promised = seen (stepOf sent (Deliver 0)); wrong = 0 ∷ 0 ∷ 1 ∷ 0 ∷ 0 ∷ [] }
-    -- step: a send into a place that is taken; a loss of the neighbour; a delivery from an empty place that is nodded to
+    -- step: a send into a place that is taken; a loss of the neighbour; a delivery from an empty
+    -- place that is nodded to
     ∷ record { promised = seen (stepOf sent (Send 0 1)); wrong = 0 ∷ 0 ∷ 0 ∷ 1 ∷ 0 ∷ [] }
     ∷ record { promised = seen (stepOf sent (Lose 0)); wrong = 0 ∷ 0 ∷ 0 ∷ 1 ∷ 0 ∷ [] }
     ∷ record { promised = seen (stepOf sent (Deliver 1)); wrong = 0 ∷ 0 ∷ 0 ∷ 1 ∷ 0 ∷ [] }

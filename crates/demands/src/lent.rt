@@ -1,4 +1,5 @@
-// What reading promises, told of the bytes that are lent: that every one of them is a byte is known of any `&[u8]`, and so nothing is asked of a caller.
+// What reading promises, told of the bytes that are lent: that every one of them is a byte is known
+// of any `&[u8]`, and so nothing is asked of a caller.
 ghost use Rattle.demands.specs.Lent.{ReadsLent};
 use record::reading::Reading;
 

@@ -1,2 +1,3 @@
-// What the promises of the other crates come to, as theorems about their definitions. The only code is that of `lent`, which nobody calls.
+// What the promises of the other crates come to, as theorems about their definitions. The only code
+// is that of `lent`, which nobody calls.
 mod lent;

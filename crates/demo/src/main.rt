@@ -1,4 +1,5 @@
-// The demonstration: two stations exchange records as a transport would carry them, with a record that comes twice.
+// The demonstration: two stations exchange records as a transport would carry them, with a record
+// that comes twice.
 use libc::STDOUT_FILENO;
 use station::outcome::Outcome;
 use station::station::Station;

@@ -1,4 +1,5 @@
--- A web with another end at one station: what its channels are, and that a turn of one of them is a move of the web. Assumes nothing.
+-- A web with another end at one station: what its channels are, and that a turn of one of them is a
+-- move of the web. Assumes nothing.
 use Prim.Native.Nat.{ℕ}
 use mathlib.Core.Path.{_≡_, refl}
 use mathlib.Core.Bool.{_&&_}

@@ -1,4 +1,5 @@
--- A history that grows at its end: what stands where, what it weighs, and when its departures and arrivals still pair. Assumes nothing.
+-- A history that grows at its end: what stands where, what it weighs, and when its departures and
+-- arrivals still pair. Assumes nothing.
 use Prim.Native.Nat.{ℕ, zero, suc, _+_, _<_}
 use mathlib.Core.Path.{_≡_, refl, sym, _∙_}
 use mathlib.Core.List.{List, [], _∷_, _++_}
@@ -22,7 +23,8 @@ module _ {A : Type 0} where
   at-front (y ∷ H) K zero p = p
   at-front (y ∷ H) K (suc i) p = at-front H K i p
 
-  -- an element of two lists is one of the first, or one of the second that stands after all of the first
+  -- an element of two lists is one of the first, or one of the second that stands after all of the
+  -- first
   pub at-either : (H K : List A) (i : ℕ) {x : A} → at (H ++ K) i ≡ some x → (at H i ≡ some x) ⊎ ((k : ℕ) × (i ≡ length H + k) × (at K k ≡ some x))
   unfolding at
   at-either [] K i p = inr (i, omega arith, p)
@@ -85,7 +87,8 @@ module _ {P : Type 0} where
       go (inr u) (inl v) = absurd (new x (u .1) k y v (belong-back b))
       go (inr u) (inr v) = u .0 ∙ sym (v .0)
 
-  -- one entry more: if it is an arrival, it departed before and no old arrival belongs to it; if a departure, no old departure does
+  -- one entry more: if it is an arrival, it departed before and no old arrival belongs to it; if a
+  -- departure, no old departure does
   module _ {H : List (Entry P)} (h : Pairing H) where
     pairing-more : (e : Entry P) → ((x : Transfer P) → arrival x ≡ e → In (departure x) H) → ((x : Transfer P) → departure x ≡ e → Unmet departure H x)
         → ((x : Transfer P) → arrival x ≡ e → Unmet arrival H x) → Pairing (H ++ (e ∷ []))

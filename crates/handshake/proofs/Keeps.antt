@@ -1,4 +1,5 @@
--- A turn keeps every clause; what is sent now, what arrived and what is stale meet theirs. Assumes nothing.
+-- A turn keeps every clause; what is sent now, what arrived and what is stale meet theirs. Assumes
+-- nothing.
 use Prim.Native.Nat.{ℕ, _≤_, _<_}
 use mathlib.Core.Path.{_≡_, sym, ap}
 use mathlib.Core.Option.{Option, none, some}

@@ -1,4 +1,5 @@
--- One move after another: what a step of a table comes to, however many rules act in it. Assumes nothing.
+-- One move after another: what a step of a table comes to, however many rules act in it. Assumes
+-- nothing.
 use Prim.Native.Nat.{ℕ, _+_, _<_}
 use mathlib.Core.Path.{_≡_, refl, sym, subst}
 use mathlib.Core.List.{List, [], _++_, append-nil, append-assoc}

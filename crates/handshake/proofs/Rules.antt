@@ -1,4 +1,5 @@
--- The rules of receiving are turns: what a rule sees of an old message is enough for what a turn asks of the other end now. Assumes nothing.
+-- The rules of receiving are turns: what a rule sees of an old message is enough for what a turn
+-- asks of the other end now. Assumes nothing.
 use Prim.Native.Nat.{ℕ, _≤_, _<_}
 use mathlib.Core.Path.{_≡_, refl, sym, ap, _∙_}
 use mathlib.Core.Option.{Option, none, some}
@@ -97,7 +98,8 @@ module _ {P Q : Type 0} where
             omega (arith, h .token-destination t (o .stored), o .destination)
 
   module _ (c : Channel P Q) {clock : ℕ} {slot : Option (Held Q)} (m : ReceiverShows c clock slot) where
-    -- 4. Drop token, where what is shown tells that no slot waits for it any more: no slot, and a clock that has passed it, or a slot that is newer than it
+    -- 4. Drop token, where what is shown tells that no slot waits for it any more: no slot, and a
+    -- clock that has passed it, or a slot that is newer than it
     pub drops-token : (t : Held P) → c .token ≡ some t
         → ((slot ≡ none) × (t .destination < clock)) ⊎ ((k : Held Q) × (slot ≡ some k) × (t .destination < k .destination))
         → Turn c (withToken c (c .source) none) quiet

@@ -1,4 +1,5 @@
--- What holds of a web at all times is kept: by a move of one channel, by sends and losses of letters, and it holds at the start. Assumes nothing.
+-- What holds of a web at all times is kept: by a move of one channel, by sends and losses of
+-- letters, and it holds at the start. Assumes nothing.
 use Prim.Native.Nat.{ℕ, _<_}
 use mathlib.Core.Path.{_≡_, refl, subst}
 use mathlib.Core.List.{List, [], _++_, append-nil}
@@ -49,7 +50,8 @@ module _ {P Q : Type 0} {W W′ : Web P Q} {g r : ℕ} {e : Event P} (z : Moves 
       go (yes p) (no n) = quietly (λ _ q. n q)
       go (no n) q = quietly (λ p _. n p)
 
-  -- what is spent stays spent, and does not arrive: so a stored token that is not on the way never will
+  -- what is spent stays spent, and does not arrive: so a stored token that is not on the way never
+  -- will
   pub moves-spent : (a b : ℕ) {s d : ℕ} → Spent (W a b) s d → Spent (W′ a b) s d
   moves-spent a b = spent-kept (turned a b .1)
 
@@ -74,7 +76,8 @@ module _ {P Q : Type 0} {W W′ : Web P Q} {g r : ℕ} {e : Event P} (z : Moves 
         let k = turned a b in
         ⊎-elim (λ q. in-front H (entries g r e) (h .stored a b t q)) (λ q. in-back H (entries g r e) (k .2 t q)) (k .1 .token-from t p)
 
-    -- a departure is newer than all before it; what arrives is stored, so it departed, and is not spent, as all that arrived are
+    -- a departure is newer than all before it; what arrives is stored, so it departed, and is not
+    -- spent, as all that arrived are
     pairing-kept : (i : Event P) → e ≡ i → Pairing (H ++ entries g r i)
     pairing-kept quiet p = rw append-nil (h .pairing)
     pairing-kept (departs t) p = pairing-departs (h .pairing) (transfer g r t) λ i y q b.

@@ -1,4 +1,5 @@
--- What is on the way, weighed: a departure adds to it, an arrival takes from it, and nothing else changes it. Assumes nothing.
+-- What is on the way, weighed: a departure adds to it, an arrival takes from it, and nothing else
+-- changes it. Assumes nothing.
 use Prim.Native.Nat.{ℕ, _+_, _<_}
 use mathlib.Core.Path.{_≡_, refl}
 use mathlib.Core.Bool.{Bool, true, false, cond, _&&_}
@@ -46,7 +47,8 @@ module _ {P Q : Type 0} (w : P → ℕ) where
       go (inr e) (inl o) = cc (weight-on (o .1), weight-on (s .nothing-new (o .0) (o .1)))
       go (inr e) (inr f) = cc
 
-  -- what was on the way and what departed is what is on the way and what arrived, in one channel and in all
+  -- what was on the way and what departed is what is on the way and what arrived, in one channel
+  -- and in all
   pub turn-weighs : (c c′ : Channel P Q) (e : Event P) (g r : ℕ) → Turn c c′ e
       → weight w c + departed w (entries g r e) ≡ weight w c′ + arrived w (entries g r e)
   unfolding departed arrived

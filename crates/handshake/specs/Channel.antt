@@ -1,4 +1,5 @@
--- One channel, from a giver to a receiver: two clocks, a token and a slot. What a token carries is any P, and what a slot asks for any Q.
+-- One channel, from a giver to a receiver: two clocks, a token and a slot. What a token carries is
+-- any P, and what a slot asks for any Q.
 use Prim.Native.Nat.{ℕ}
 use mathlib.Core.Path.{_≡_}
 use mathlib.Core.Option.{Option, some}
@@ -9,7 +10,8 @@ pub record Held (P : Type 0) : Type 0 where
   pub destination : ℕ
   pub carried : P
 
--- the giver's source clock and its token for the receiver; the receiver's destination clock and its slot for the giver
+-- the giver's source clock and its token for the receiver; the receiver's destination clock and its
+-- slot for the giver
 pub record Channel (P Q : Type 0) : Type 0 where
   pub source : ℕ
   pub destination : ℕ

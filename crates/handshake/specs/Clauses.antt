@@ -1,10 +1,12 @@
--- What holds of a channel at all times: by itself, beside every message that still waits, and beside all that ever departed or arrived.
+-- What holds of a channel at all times: by itself, beside every message that still waits, and
+-- beside all that ever departed or arrived.
 use Prim.Native.Nat.{ℕ, _≤_, _<_}
 use mathlib.Core.Path.{_≡_}
 use mathlib.Core.Option.{Option, none, some}
 use Rattle.handshake.specs.Channel.{Held, Channel}
 
--- the channel by itself: a stored token is older than both clocks; a slot is older than the destination clock, and no newer than the source clock
+-- the channel by itself: a stored token is older than both clocks; a slot is older than the
+-- destination clock, and no newer than the source clock
 pub record Standing {P Q : Type 0} (c : Channel P Q) : Type 0 where
   pub token-source : (t : Held P) → c .token ≡ some t → t .source < c .source
   pub token-destination : (t : Held P) → c .token ≡ some t → t .destination < c .destination

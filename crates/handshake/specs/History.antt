@@ -42,7 +42,8 @@ pub record Belong {P : Type 0} (x y : Transfer P) : Type 0 where
   pub destination : x .token .destination ≡ y .token .destination
 
 pub record Pairing {P : Type 0} (H : List (Entry P)) : Type 0 where
-  -- each arrival belongs to an earlier departure between the same two stations, with both clocks equal and of the same amount
+  -- each arrival belongs to an earlier departure between the same two stations, with both clocks
+  -- equal and of the same amount
   pub departed-before : (i : ℕ) (x : Transfer P) → at H i ≡ some (arrival x) → (k : ℕ) × (k < i) × (at H k ≡ some (departure x))
   -- and to one only: two departures that belong together are the same one
   pub one-departure : (i k : ℕ) (x y : Transfer P) → at H i ≡ some (departure x) → at H k ≡ some (departure y) → Belong x y → i ≡ k

@@ -1,17 +1,20 @@
--- A turn of a channel: what any rule of receiving, at either end, may do to it. All that the theory asks of a family of stations is that its rules are turns.
+-- A turn of a channel: what any rule of receiving, at either end, may do to it. All that the theory
+-- asks of a family of stations is that its rules are turns.
 use Prim.Native.Nat.{_≤_, _<_}
 use mathlib.Core.Path.{_≡_}
 use mathlib.Core.Option.{none, some}
 use mathlib.Core.Logic.{_⊎_}
 use Rattle.handshake.specs.Channel.{Held, Channel, OnTheWay, Event, quiet, departs, arrives}
 
--- a slot opened in this turn: with the receiver's destination clock, which advances, and a source clock that the giver has reached
+-- a slot opened in this turn: with the receiver's destination clock, which advances, and a source
+-- clock that the giver has reached
 pub record Opened {P Q : Type 0} (c c′ : Channel P Q) (l : Held Q) : Type 0 where
   pub source : l .source ≤ c .source
   pub own-clock : c .destination ≤ l .destination
   pub advanced : l .destination < c′ .destination
 
--- a departure: nothing was on the way, the token is, and its source clock was the giver's, which advances
+-- a departure: nothing was on the way, the token is, and its source clock was the giver's, which
+-- advances
 pub record Departs {P Q : Type 0} (c c′ : Channel P Q) (t : Held P) : Type 0 where
   pub none-before : (u : Held P) → OnTheWay c u → ⊥
   pub on-the-way : OnTheWay c′ t

@@ -1,4 +1,5 @@
--- All channels of a table at once, the messages that wait between them, and the history: what holds at all times.
+-- All channels of a table at once, the messages that wait between them, and the history: what holds
+-- at all times.
 use Prim.Native.Nat.{ℕ, _<_}
 use mathlib.Core.Path.{_≡_}
 use mathlib.Core.Bool.{cond, _&&_}
@@ -52,7 +53,8 @@ pub record Present {P Q : Type 0} (W : Web P Q) (m : Letter P Q) : Type 0 where
   pub token : m .token ≡ W (m .from) (m .to) .token
   pub slot : m .slot ≡ W (m .to) (m .from) .slot
 
--- what of a station its rules can change when it takes a message: its clocks, and its slot and its token for the sender
+-- what of a station its rules can change when it takes a message: its clocks, and its slot and its
+-- token for the sender
 pub record End (P Q : Type 0) : Type 0 where
   pub source : ℕ
   pub destination : ℕ

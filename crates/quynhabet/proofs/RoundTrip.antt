@@ -1,4 +1,5 @@
--- Nothing is lost between a station and its numbers, nor between a message and its numbers. Assumes nothing.
+-- Nothing is lost between a station and its numbers, nor between a message and its numbers. Assumes
+-- nothing.
 use Prim.Native.Nat.{ℕ, zero, suc, _+_, _*_, _-_, _/_, _%_, _<_, _≤_}
 use mathlib.Core.Path.{_≡_, refl, ap, sym, _∙_}
 use mathlib.Core.Bool.{Bool, true, false}
@@ -42,7 +43,8 @@ station-back s e f =
     (ones-list (tokenCell (numbersOf s)) noToken (s .tokens) mostStations f
     (λ k h. let held = ap tokenOf (token-four-at s k h) ∙ token-back (tokenFor s k) in λ i. record { held = held i }))
 
--- The numbers of the station that fitting numbers are: those numbers. So loading and storing changes nothing.
+-- The numbers of the station that fitting numbers are: those numbers. So loading and storing
+-- changes nothing.
 module _ (numbers : List ℕ) (fits : stationFits numbers ≡ true) where
   cells : (k : ℕ) → k < mostStations → CellsFit numbers k
   cells k h = cell-fits numbers k (station-fits numbers fits .cells) h

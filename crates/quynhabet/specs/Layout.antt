@@ -1,4 +1,5 @@
--- The numbers that cross to another language, by version: a station is 134 numbers, a message is 13.
+-- The numbers that cross to another language, by version: a station is 134 numbers, a message is
+-- 13.
 use Prim.Native.Nat.{ℕ, zero, suc, _+_, _*_}
 use mathlib.Core.Bool.{Bool, cond, _&&_, _||_}
 use mathlib.Core.List.{List, [], _∷_, _++_}
@@ -64,7 +65,8 @@ unfoldable pub inTurn : {A : Type 0} → (ℕ → List A) → ℕ → List A
 inTurn f zero = []
 inTurn f (suc n) = inTurn f n ++ f n
 
--- A station: number, count, value, intake, source clock, destination clock; then the slots for peers 0 to 15, then the tokens.
+-- A station: number, count, value, intake, source clock, destination clock; then the slots for
+-- peers 0 to 15, then the tokens.
 abbrev pub slotPlace : ℕ → ℕ
 slotPlace k = 6 + 4 * k
 

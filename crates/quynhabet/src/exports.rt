@@ -1,4 +1,5 @@
-// What C and Rust call. The numbers that are lent are copied, the work is done on the copy, and what comes of it is stored in one step.
+// What C and Rust call. The numbers that are lent are copied, the work is done on the copy, and
+// what comes of it is stored in one step.
 ghost use mathlib.Core.Path.{_≡_};
 ghost use Rattle.quynhabet.specs.Exports.{Makes, checkOf, Adds, Draws, Shows, Receives, Reads, WritesNumbers};
 use crate::messages::message_fits;

@@ -1,4 +1,5 @@
-// The proved library for callers in C and Rust: a station is 134 numbers, a message is 13, and no call has a condition.
+// The proved library for callers in C and Rust: a station is 134 numbers, a message is 13, and no
+// call has a condition.
 pub mod exports;
 mod fours;
 mod messages;

@@ -4,7 +4,8 @@ ghost use Rattle.quynhabet.specs.Exports.{toldOf, plainTold};
 use rules::report::Report;
 use rules::report::rules_of;
 
-// The answer, the result, and the report: the rules that acted as a sum of 1, 2, 4, 8, 16, the quantity of a slot opened and that of a token made.
+// The answer, the result, and the report: the rules that acted as a sum of 1, 2, 4, 8, 16, the
+// quantity of a slot opened and that of a token made.
 #[repr(C)]
 pub struct Told {
     pub answer: u64,

@@ -1,4 +1,5 @@
--- What an accepted reading and a refused one say of the bytes read: bytes accepted as a message are exactly those that writing it gives. Assumes nothing.
+-- What an accepted reading and a refused one say of the bytes read: bytes accepted as a message are
+-- exactly those that writing it gives. Assumes nothing.
 use Prim.Native.Nat.{ℕ, _-_}
 use mathlib.Core.Path.{_≡_, refl, ap, sym, _∙_}
 use mathlib.Core.Logic.{_⊎_, inl, inr, ⊎-elim}

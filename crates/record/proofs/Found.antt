@@ -1,4 +1,5 @@
--- What the tests of reading find in the bytes written for a message, and the numbers that they find in a held field. Assumes nothing.
+-- What the tests of reading find in the bytes written for a message, and the numbers that they find
+-- in a held field. Assumes nothing.
 use Prim.Native.Nat.{ℕ, _+_, _≤_}
 use mathlib.Core.Path.{_≡_, refl}
 use mathlib.Core.List.{List, _++_}

@@ -1,4 +1,5 @@
--- How long a record and its parts are: 30 bytes, and 19 more for a slot and for a token. Assumes nothing.
+-- How long a record and its parts are: 30 bytes, and 19 more for a slot and for a token. Assumes
+-- nothing.
 use Prim.Native.Nat.{ℕ, _+_}
 use mathlib.Core.Path.{_≡_, refl, ap, _∙_}
 use native.Mathlib.Omega.{arith}

@@ -1,4 +1,5 @@
--- What the walks over a lent record share. Nothing that is lent changes, so a walk holds nothing back for its end: what its parameters own moves on into the reader, or to the function called.
+-- What the walks over a lent record share. Nothing that is lent changes, so a walk holds nothing
+-- back for its end: what its parameters own moves on into the reader, or to the function called.
 --     Told T       what a contract tells of the result. These contracts tell one fact, and ask nothing
 --     brought x    all that a caller hands over in a call at x
 --     Laws, lent   what `met` has to know of the parameters' types, and of a lent slice of bytes

@@ -1,4 +1,5 @@
--- What is written for a sound message reads back as that message, all of it, with its length. Assumes nothing.
+-- What is written for a sound message reads back as that message, all of it, with its length.
+-- Assumes nothing.
 use Prim.Native.Nat.{ℕ, _+_, _≤_}
 use mathlib.Core.Path.{_≡_, refl}
 use mathlib.Core.List.{List, [], _++_}

@@ -1,5 +1,6 @@
--- Written and read: the first bytes of a buffer after a write that was done, as many as its result says, read back as the message; and bytes that were
--- lent to a reading and accepted are what writing their message gives. Assumes nothing.
+-- Written and read: the first bytes of a buffer after a write that was done, as many as its result
+-- says, read back as the message; and bytes that were lent to a reading and accepted are what
+-- writing their message gives. Assumes nothing.
 use Prim.Native.Nat.{ℕ, zero, suc}
 use mathlib.Core.Path.{_≡_, refl, sym, _∙_}
 use mathlib.Core.Bool.{true, not}
@@ -66,8 +67,8 @@ message-reads-back s to before r after w e =
     let p = put (writeForAnswer s to (length before)) (bytesOf (messageFor s to)) before r after w e in
     reads-back (messageFor s to) _ r after (message-sound s to (none-before (showRefusals s to) (roomRefusals s to (length before)) (p .done))) p
 
--- What a lent `&[u8]` holds are bytes: this is the type's own fact, which every function that looks into the slice is given (`shared-slice-known`), and asks
--- nothing of a caller.
+-- What a lent `&[u8]` holds are bytes: this is the type's own fact, which every function that looks
+-- into the slice is given (`shared-slice-known`), and asks nothing of a caller.
 abbrev pub HeldAsU8 : List ℕ → Type 0
 HeldAsU8 bytes = (k : ℕ) → Fits w8 (getD bytes k 0)
 

@@ -15,7 +15,8 @@ use Rattle.record.specs.Layout.{bytesOf}
 use Rattle.record.specs.Reading.{messageAt, isRecord, readOf}
 use Rattle.record.specs.Writing.{Writes}
 
--- what is written is the message that the station shows (1, 2, 3); 14 where the buffer is shorter than its record
+-- what is written is the message that the station shows (1, 2, 3); 14 where the buffer is shorter
+-- than its record
 abbrev pub roomRefusals : Station → ℕ → ℕ → List Refusal
 roomRefusals s to room = when (ltb room (length (bytesOf (messageFor s to)))) shortBuffer ∷ []
 
@@ -32,7 +33,8 @@ WritesFor s to before r after = Writes (writeForAnswer s to (length before)) (by
 unfoldable pub receiveBytesOf : Station → List ℕ → Outcome
 receiveBytesOf s bytes = receiveOf s (readOf bytes .message)
 
--- so it is refused by 1, by 9 where the bytes are no record, and by what receiving their message is refused by
+-- so it is refused by 1, by 9 where the bytes are no record, and by what receiving their message is
+-- refused by
 abbrev pub receiveBytesRefusals : Station → List ℕ → List Refusal
 receiveBytesRefusals s bytes =
     when (not (stationSound s)) notSound

@@ -21,7 +21,8 @@ pub fn write_message(s: Station, to: u64, buffer: &mut [u8]) -> Written
     write(message, buffer)
 }
 
-// Lets a station take a record: refused by 1, 9, 2, 11, 10. Where the bytes are no record, what was read is no sound message.
+// Lets a station take a record: refused by 1, 9, 2, 11, 10. Where the bytes are no record, what was
+// read is no sound message.
 pub fn receive_bytes(s: Station, bytes: &[u8]) -> Outcome
     ensures { λ r. ⌜ r ≡ receiveBytesOf s (now (bytes .entry)) ⌝ }
 {

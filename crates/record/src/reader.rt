@@ -1,4 +1,5 @@
-// A lent record and a position in it. Nothing is decided here: `read_at` does the work, on a slice and a number.
+// A lent record and a position in it. Nothing is decided here: `read_at` does the work, on a slice
+// and a number.
 ghost use mathlib.Core.Path.{_≡_};
 ghost use Rattle.record.specs.Reading.{readAt};
 use crate::reading::Reading;

@@ -73,7 +73,8 @@ fn put_record(buffer: &mut [u8], m: Message)
     put_token(buffer, 30 + slot_size(slot), token);
 }
 
-// A given message: refused by 9 where it is not sound, by 14 where the buffer is shorter than its record.
+// A given message: refused by 9 where it is not sound, by 14 where the buffer is shorter than its
+// record.
 pub fn write(m: Message, buffer: &mut [u8]) -> Written
     ensures { λ r. ⌜ WritesGiven m (now (buffer .entry)) r (now (buffer .exit)) ⌝ }
 {

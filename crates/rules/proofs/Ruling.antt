@@ -17,7 +17,8 @@ use Rattle.rules.specs.Clocks.{sourceNext, destinationNext}
 use Rattle.rules.specs.Side.{putValue, putSource, putDestination, putSlot, putToken}
 use Rattle.rules.specs.Rules.{acts, rests, agree, fillBy, dropSlotBy, openSlotBy, dropTokenBy, makeTokenBy}
 
--- what is held or shown is a variable of its own, so that putting its case for it leaves the side alone
+-- what is held or shown is a variable of its own, so that putting its case for it leaves the side
+-- alone
 module _ (x : Side) where
   pub fill-no-token : {g : HeldToken} (h : HeldSlot) → g ≡ NoToken → rests x ≡ fillBy x g h
   fill-no-token h eg = rw eg

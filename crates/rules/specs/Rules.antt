@@ -27,7 +27,8 @@ rests x = record { acted = false; quantity = 0; side = x }
 abbrev pub agree : Token → Slot → Bool
 agree t l = eqb (t .source .0) (l .source .0) && eqb (t .destination .0) (l .destination .0)
 
--- 1. Fill: m has a token, i has a slot for j, and their clocks agree: the quantity goes to i's value, the slot goes.
+-- 1. Fill: m has a token, i has a slot for j, and their clocks agree: the quantity goes to i's
+-- value, the slot goes.
 abbrev pub fillBy : Side → HeldToken → HeldSlot → Ruled
 fillBy x (OneToken t) (OneSlot l) = cond (agree t l) (acts (t .quantity) (putSlot (putValue x (x .value + t .quantity)) NoSlot)) (rests x)
 fillBy x (OneToken t) NoSlot = rests x
@@ -44,8 +45,9 @@ dropSlotBy x m NoSlot = rests x
 abbrev pub dropSlot : Side → Message → Ruled
 dropSlot x m = dropSlotBy x m (x .slot)
 
--- 3. Open slot: i has no slot for j, and h, half of m's value less i's, is at least 1: a slot with m's source clock, i's destination clock and h; i's
--- destination clock goes up by 1. Not where that clock is at its end.
+-- 3. Open slot: i has no slot for j, and h, half of m's value less i's, is at least 1: a slot with
+-- m's source clock, i's destination clock and h; i's destination clock goes up by 1. Not where that
+-- clock is at its end.
 abbrev pub openSlotBy : Side → Message → ℕ → HeldSlot → Ruled
 openSlotBy x m h NoSlot =
     cond (leb 1 h && ltb (x .destination .0) lastClock)
@@ -57,7 +59,8 @@ openSlotBy x m h (OneSlot l) = rests x
 abbrev pub openSlot : Side → Message → Ruled
 openSlot x m = openSlotBy x m (halfAbove (m .value) (x .value)) (x .slot)
 
--- 4. Drop token: i has a token for j, m has no slot, and m's destination clock is above the token's: the token goes.
+-- 4. Drop token: i has a token for j, m has no slot, and m's destination clock is above the
+-- token's: the token goes.
 abbrev pub dropTokenBy : Side → Message → HeldToken → HeldSlot → Ruled
 dropTokenBy x m (OneToken t) NoSlot = cond (ltb (t .destination .0) (m .destination .0)) (acts 0 (putToken x NoToken)) (rests x)
 dropTokenBy x m (OneToken t) (OneSlot l) = rests x
@@ -66,8 +69,9 @@ dropTokenBy x m NoToken h = rests x
 abbrev pub dropToken : Side → Message → Ruled
 dropToken x m = dropTokenBy x m (x .token) (m .slot)
 
--- 5. Make token: m has a slot whose source clock equals i's: q, the smaller of i's value and the slot's quantity, leaves i's value; i's token for j
--- becomes the slot's two clocks with q; i's source clock goes up by 1. Not where that clock is at its end.
+-- 5. Make token: m has a slot whose source clock equals i's: q, the smaller of i's value and the
+-- slot's quantity, leaves i's value; i's token for j becomes the slot's two clocks with q; i's
+-- source clock goes up by 1. Not where that clock is at its end.
 abbrev pub give : Side → Slot → ℕ → Side
 give x l q =
     putSource (putToken (putValue x (x .value - q)) (OneToken (record { source = l .source; destination = l .destination; quantity = q })))

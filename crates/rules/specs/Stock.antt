@@ -1,4 +1,5 @@
--- What an add and a draw do to a stock of passes: a value, and the intake, which is all that was ever added.
+-- What an add and a draw do to a stock of passes: a value, and the intake, which is all that was
+-- ever added.
 use Prim.Native.Nat.{ℕ, zero, suc, _+_, _-_, min}
 use mathlib.Core.Bool.{Bool, not, _&&_}
 use mathlib.Core.List.{List, [], _∷_}
@@ -16,7 +17,8 @@ stockSound value intake = leb value mostValue && leb intake mostIntake
 abbrev pub amountSound : ℕ → Bool
 amountSound amount = leb 1 amount && leb amount mostAmount
 
--- answer 0 is the stock as it then is; any other is a refusal, with result 0 and the stock as it was
+-- answer 0 is the stock as it then is; any other is a refusal, with result 0 and the stock as it
+-- was
 abbrev pub stocked : ℕ → ℕ → ℕ → Stock → Stock
 stocked zero value intake later = later
 stocked (suc n) value intake later = record { answer = suc n; result = 0; value = value; intake = intake }

@@ -15,7 +15,8 @@ use Rattle.rules.specs.Report.{noReport}
 use Rattle.rules.specs.Refusals.{Refusal, when, answerOf}
 use Rattle.rules.specs.Rules.{fill, dropSlot, openSlot, dropToken, makeToken}
 
--- the result is the amount filled; the report says which rules acted, and the quantities of a slot opened and of a token made
+-- the result is the amount filled; the report says which rules acted, and the quantities of a slot
+-- opened and of a token made
 abbrev pub reported : Ruled → Ruled → Ruled → Ruled → Ruled → Taken
 reported one two three four five =
     record {
@@ -42,7 +43,8 @@ takeOf x m =
     let four = dropToken (three .side) m in
     reported one two three four (makeToken (four .side) m)
 
--- what a message shows is in range as far as the rules lean on it: its value, and the quantity of its token
+-- what a message shows is in range as far as the rules lean on it: its value, and the quantity of
+-- its token
 abbrev pub tokenSmall : HeldToken → Bool
 tokenSmall NoToken = true
 tokenSmall (OneToken t) = leb (t .quantity) mostValue
@@ -61,7 +63,8 @@ takeRefusals x m =
 abbrev pub takeAnswer : Side → Message → ℕ
 takeAnswer x m = answerOf (takeRefusals x m)
 
--- answer 0 is what the rules did; any other is a refusal, with result 0, no rule named, and the side as it was
+-- answer 0 is what the rules did; any other is a refusal, with result 0, no rule named, and the
+-- side as it was
 abbrev pub takenBy : ℕ → Side → Taken → Taken
 takenBy zero x t = t
 takenBy (suc n) x t = record { answer = suc n; result = 0; report = noReport; side = x }

@@ -1,4 +1,5 @@
-// What of a station the five rules see when it takes a message: its value, its clocks, and what it holds for the sender.
+// What of a station the five rules see when it takes a message: its value, its clocks, and what it
+// holds for the sender.
 use crate::clocks::DestinationClock;
 use crate::clocks::SourceClock;
 use crate::held::HeldSlot;

@@ -1,4 +1,5 @@
-// What an add and a draw do to a stock of passes: a value, and the intake, which is all that was ever added.
+// What an add and a draw do to a stock of passes: a value, and the intake, which is all that was
+// ever added.
 ghost use mathlib.Core.Path.{_≡_};
 ghost use Rattle.rules.specs.Stock.{stockSound, amountSound, addToAnswer, addedTo, drawFromAnswer, drawnFrom};
 use crate::answers;

@@ -1,4 +1,5 @@
--- A second delivery of the same place acts, so a build that handles the first delivery of a message and then only nods is not what is promised.
+-- A second delivery of the same place acts, so a build that handles the first delivery of a message
+-- and then only nods is not what is promised.
 -- Assumes nothing.
 use mathlib.Core.Path.{_≡_, refl, ap, sym}
 use mathlib.Core.Bool.{false≢true}
@@ -17,7 +18,8 @@ use Rattle.table.specs.declared.table.Table.{Table}
 use Rattle.runs.specs.Runs.{tableAfter}
 use Rattle.runs.specs.Again.{hello, atFirst, atAgain, opens, nod}
 
--- the message at place 0 opens a slot of 5 where it is delivered first, and one of 2 where it is delivered again
+-- the message at place 0 opens a slot of 5 where it is delivered first, and one of 2 where it is
+-- delivered again
 pub record ActsAgain (first again : Table) : Type 0 where
   pub first-message : waitingAt first 0 ≡ One hello
   pub first-report : stepOf first (Deliver 0) .report ≡ opens 5

@@ -1,4 +1,5 @@
--- A run that fails one clause, and passes the tests of all others, fails that one alone. Assumes nothing.
+-- A run that fails one clause, and passes the tests of all others, fails that one alone. Assumes
+-- nothing.
 use Prim.Native.Nat.{ℕ, _<_}
 use mathlib.Core.Path.{_≡_, refl, ap, sym, _∙_}
 use mathlib.Core.Bool.{Bool, true, _||_}

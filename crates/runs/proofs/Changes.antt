@@ -1,4 +1,5 @@
--- What a step can change in a table that a run reached: nothing, a station's stock, a place, or what a receiver has taken. Assumes nothing.
+-- What a step can change in a table that a run reached: nothing, a station's stock, a place, or
+-- what a receiver has taken. Assumes nothing.
 use Prim.Native.Nat.{ℕ, _+_, _<_, _≤_}
 use mathlib.Core.Path.{_≡_, refl, sym, subst}
 use mathlib.Core.List.{List, []}

@@ -1,4 +1,5 @@
--- Taking a message by the five rules is a passage, with the entries that its report tells. Assumes nothing.
+-- Taking a message by the five rules is a passage, with the entries that its report tells. Assumes
+-- nothing.
 use Prim.Native.Nat.{ℕ, _<_}
 use mathlib.Core.Path.{_≡_, refl, ap}
 use mathlib.Core.Bool.{Bool, true, false}

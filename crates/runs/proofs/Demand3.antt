@@ -1,4 +1,5 @@
--- Demand 3 holds of the build whose steps the code's promises cite, for every count that a table can have. Assumes nothing.
+-- Demand 3 holds of the build whose steps the code's promises cite, for every count that a table
+-- can have. Assumes nothing.
 use Prim.Native.Nat.{ℕ, zero, suc, _+_}
 use mathlib.Core.Path.{_≡_, refl, ap, subst}
 use mathlib.Core.Bool.{true, false}

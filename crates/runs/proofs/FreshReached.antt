@@ -1,4 +1,5 @@
--- A run starts at a fresh table, which has nothing: no passes, no slot, no token, no message. Assumes nothing.
+-- A run starts at a fresh table, which has nothing: no passes, no slot, no token, no message.
+-- Assumes nothing.
 use Prim.Native.Nat.{ℕ, zero, suc, _<_}
 use mathlib.Core.Path.{_≡_, refl, sym, _∙_, ap}
 use mathlib.Core.Bool.{true}

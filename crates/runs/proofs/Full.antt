@@ -1,4 +1,5 @@
--- The lists of a run's table keep their lengths: 16 stations, 64 places, and at each station 16 slots and 16 tokens. Assumes nothing.
+-- The lists of a run's table keep their lengths: 16 stations, 64 places, and at each station 16
+-- slots and 16 tokens. Assumes nothing.
 use Prim.Native.Nat.{ℕ, _<_}
 use mathlib.Core.Path.{_≡_, _∙_}
 use lib.ListN.{length, length-set}

@@ -1,4 +1,5 @@
--- The pairing at histories of two and three entries: what it allows, and that every part of it is needed. Assumes nothing.
+-- The pairing at histories of two and three entries: what it allows, and that every part of it is
+-- needed. Assumes nothing.
 use Prim.Native.Nat.{ℕ, zero, suc, _<_}
 use mathlib.Core.Path.{_≡_, refl}
 use mathlib.Core.List.{List, [], _∷_}

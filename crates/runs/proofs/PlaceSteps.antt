@@ -1,4 +1,5 @@
--- Sending and losing: a message sent shows its sender as it is, and a message lost is gone. Assumes nothing.
+-- Sending and losing: a message sent shows its sender as it is, and a message lost is gone. Assumes
+-- nothing.
 use Prim.Native.Nat.{ℕ, _<_}
 use mathlib.Core.Path.{_≡_, refl, sym, _∙_, subst}
 use mathlib.Core.Bool.{not, _&&_}

@@ -1,4 +1,5 @@
--- What holds of every table that a run reaches, and what a step has to show to keep it. Assumes nothing.
+-- What holds of every table that a run reaches, and what a step has to show to keep it. Assumes
+-- nothing.
 use Prim.Native.Nat.{ℕ, _+_, _<_, _≤_}
 use mathlib.Core.Path.{_≡_, refl, _∙_, ap}
 use mathlib.Core.Bool.{true}

@@ -1,5 +1,6 @@
--- The right parts make the right build, so that a broken build differs from it in its wrong part only (and the unasked one in that it does not ask); and
--- after the steps that show the broken builds the right build has every pass. Assumes nothing.
+-- The right parts make the right build, so that a broken build differs from it in its wrong part
+-- only (and the unasked one in that it does not ask); and after the steps that show the broken
+-- builds the right build has every pass. Assumes nothing.
 use Prim.Native.Nat.{ℕ, _+_}
 use mathlib.Core.Path.{_≡_, refl}
 use mathlib.Core.Bool.{true}

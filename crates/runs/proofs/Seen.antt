@@ -1,4 +1,5 @@
--- What the theory of the handshake sees of a table: of a slot, a token, a side, a message, and of all stations. Assumes nothing.
+-- What the theory of the handshake sees of a table: of a slot, a token, a side, a message, and of
+-- all stations. Assumes nothing.
 use Prim.Native.Nat.{ℕ}
 use mathlib.Core.Bool.{Bool, true, false}
 use mathlib.Core.Option.{Option, none, some}
@@ -51,7 +52,8 @@ letterOf m =
       token = tokenSeen (m .token);
     }
 
--- a side as the receiver's end of one channel, beside what its giver has, and as the giver's end of the other
+-- a side as the receiver's end of one channel, beside what its giver has, and as the giver's end of
+-- the other
 abbrev pub inward : Side → ℕ → Option (Held ℕ) → Channel ℕ ℕ
 inward x source token = record { source = source; destination = x .destination .0; token = token; slot = slotSeen (x .slot) }
 

@@ -1,4 +1,5 @@
--- Demand 3 shuts out builds that have one thing wrong: for each there are steps after which one of its statements is false. Assumes nothing.
+-- Demand 3 shuts out builds that have one thing wrong: for each there are steps after which one of
+-- its statements is false. Assumes nothing.
 use mathlib.Core.Path.{refl}
 use mathlib.Core.Bool.{false≢true}
 use borrow.Author.Tests.{eqb-false}

@@ -1,4 +1,5 @@
--- A run that passes the test of a clause keeps the clause; and the clauses are demand 3, all of it. Assumes nothing.
+-- A run that passes the test of a clause keeps the clause; and the clauses are demand 3, all of it.
+-- Assumes nothing.
 use Prim.Native.Nat.{ℕ, zero, suc, _+_, _<_}
 use mathlib.Core.Path.{_≡_, refl, ap, sym, _∙_, subst}
 use mathlib.Core.Bool.{Bool, true, false, _||_, and-false}

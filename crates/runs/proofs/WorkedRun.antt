@@ -1,5 +1,6 @@
--- The worked script, run through the definitions that the code's promises cite, prints what document 01 prints, and its 5 passes depart once and arrive
--- once. So demand 3's runs are not empty of meaning. Assumes nothing.
+-- The worked script, run through the definitions that the code's promises cite, prints what
+-- document 01 prints, and its 5 passes depart once and arrive once. So demand 3's runs are not
+-- empty of meaning. Assumes nothing.
 use mathlib.Core.Path.{_≡_, refl}
 use Rattle.handshake.specs.Sums.{sumBelow}
 use Rattle.rules.specs.Below.{allBelow}

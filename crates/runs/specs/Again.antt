@@ -1,4 +1,5 @@
--- A message delivered a second time that still has something to do, and what a build would tell that only nods at it.
+-- A message delivered a second time that still has something to do, and what a build would tell
+-- that only nods at it.
 use Prim.Native.Nat.{ℕ}
 use mathlib.Core.Bool.{true, false}
 use mathlib.Core.List.{List, [], _∷_, _++_}
@@ -20,7 +21,8 @@ use Rattle.runs.specs.Runs.{tableAfter}
 abbrev pub hello : Message
 hello = record { from = 0; to = 1; value = 10; source = record { 0 = 0 }; destination = record { 0 = 0 }; slot = NoSlot; token = NoToken }
 
--- this message waits at place 0; it is delivered and opens a slot of 5, a token of 5 is made for that slot and lands in it
+-- this message waits at place 0; it is delivered and opens a slot of 5, a token of 5 is made for
+-- that slot and lands in it
 abbrev pub sends : List Step
 sends = Add 0 10 ∷ Send 0 1 ∷ []
 

@@ -1,4 +1,5 @@
--- Builds with one thing wrong, as it has been got wrong, and for each the steps that show it. (Rule 3 with i's value from before the fill is not among them:
+-- Builds with one thing wrong, as it has been got wrong, and for each the steps that show it. (Rule
+-- 3 with i's value from before the fill is not among them:
 -- it asks for too much, and demand 2 rules it out.)
 use Prim.Native.Nat.{ℕ, zero, suc, _+_, _-_, min}
 use mathlib.Core.Bool.{cond, _&&_}
@@ -25,7 +26,8 @@ use Rattle.table.specs.declared.steps.Step.the-variants.{Add, Draw, Send, Deliv
 use Rattle.runs.specs.Runs.{Build}
 use Rattle.runs.specs.Builds.{Taking, Drawing, takesBy, deliversBy, deliversUnasked, drawsBy}
 
--- the steps up to here: station 0 has 10 and shows it, station 1 opens slot (0,0) of 5 and shows that, at place 1
+-- the steps up to here: station 0 has 10 and shows it, station 1 opens slot (0,0) of 5 and shows
+-- that, at place 1
 abbrev pub slotShown : List Step
 slotShown = Add 0 10 ∷ Send 0 1 ∷ Deliver 0 ∷ Send 1 0 ∷ []
 
@@ -39,7 +41,8 @@ fillByOne x NoToken h = rests x
 abbrev pub oneClock : Build
 oneClock = deliversBy (takesBy (λ x m. fillByOne x (m .token) (x .slot)) dropSlot openSlot dropToken makeToken)
 
--- the token of 5 is made and lands; after a late message the slot is (0,1), and the old token (0,0) comes again
+-- the token of 5 is made and lands; after a late message the slot is (0,1), and the old token (0,0)
+-- comes again
 abbrev pub oldToken : List Step
 oldToken = slotShown ++ (Deliver 1 ∷ Send 0 1 ∷ Deliver 2 ∷ Deliver 0 ∷ Deliver 2 ∷ [])
 
@@ -51,7 +54,8 @@ dropAnyToken x m NoToken = rests x
 abbrev pub slotUnseen : Build
 slotUnseen = deliversBy (takesBy fill dropSlot openSlot (λ x m. dropAnyToken x m (x .token)) makeToken)
 
--- the token of 5 is made, and the message with the slot (0,0) comes again: its passes have not landed
+-- the token of 5 is made, and the message with the slot (0,0) comes again: its passes have not
+-- landed
 abbrev pub slotAgain : List Step
 slotAgain = slotShown ++ (Deliver 1 ∷ Deliver 1 ∷ [])
 
@@ -93,7 +97,8 @@ clockStands = deliversBy takesStanding
 abbrev pub tokenOfNothing : List Step
 tokenOfNothing = slotShown ++ (Draw 0 10 ∷ Deliver 1 ∷ [])
 
--- such a token is not sound, so that every later step is refused; the same in a build that does not ask
+-- such a token is not sound, so that every later step is refused; the same in a build that does not
+-- ask
 abbrev pub clockStandsUnasked : Build
 clockStandsUnasked = deliversUnasked takesStanding
 

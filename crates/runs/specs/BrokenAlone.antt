@@ -1,5 +1,5 @@
--- For each clause of demand 3 a build, and steps for which that clause alone is false. (An invented draw and a source clock left standing are among the
--- other broken builds.)
+-- For each clause of demand 3 a build, and steps for which that clause alone is false. (An invented
+-- draw and a source clock left standing are among the other broken builds.)
 use Prim.Native.Nat.{ℕ, _+_}
 use mathlib.Core.Bool.{Bool, true, false, cond, _||_}
 use mathlib.Core.List.{List, [], _∷_, _++_}
@@ -37,7 +37,8 @@ abbrev carries : HeldToken → ℕ
 carries (OneToken t) = t .quantity
 carries NoToken = 0
 
--- departed-before: a token made is told of when the slot comes again, and so after the token has landed
+-- departed-before: a token made is told of when the slot comes again, and so after the token has
+-- landed
 abbrev makeLate : Rule
 makeLate x m =
     let late = stands (x .token) (m .slot) in
@@ -81,7 +82,8 @@ neverSound = refusesAll
 abbrev pub oneAdd : List Step
 oneAdd = Add 0 10 ∷ []
 
--- stale: a token lands where no slot waits for it. The first delivery drops the slot, the second fills
+-- stale: a token lands where no slot waits for it. The first delivery drops the slot, the second
+-- fills
 abbrev fillGone : Side → HeldToken → HeldSlot → Ruled
 fillGone x (OneToken t) NoSlot = acts (t .quantity) (putValue x (x .value + t .quantity))
 fillGone x (OneToken t) (OneSlot l) = rests x
@@ -90,7 +92,8 @@ fillGone x NoToken h = rests x
 abbrev pub slotGone : Build
 slotGone = fillsBy (λ x m. fillGone x (m .token) (x .slot))
 
--- the token of 5 is made, its maker draws the rest and shows 0, so that no slot is opened; the slot is dropped, and the token is stored and not on the way
+-- the token of 5 is made, its maker draws the rest and shows 0, so that no slot is opened; the slot
+-- is dropped, and the token is stored and not on the way
 abbrev pub slotDropped : List Step
 slotDropped = slotShown ++ (Deliver 1 ∷ Draw 0 5 ∷ Send 0 1 ∷ Deliver 2 ∷ [])
 

@@ -1,4 +1,5 @@
--- Builds put together from given parts, so that one part can be a wrong one. With the right parts it is the right build.
+-- Builds put together from given parts, so that one part can be a wrong one. With the right parts
+-- it is the right build.
 use Prim.Native.Nat.{ℕ}
 use mathlib.Core.Bool.{true, not}
 use mathlib.Core.List.{List, [], _∷_}
@@ -23,7 +24,8 @@ use Rattle.table.specs.Table.{mostPlaces, isEmpty, stationAt, waitingAt, putSta
 use Rattle.table.specs.Steps.{did, answeredStep, stepRefusals, stepDone}
 use Rattle.runs.specs.Runs.{Build}
 
--- a rule, the taking of a message by the rules, what a draw of an amount does at a station, and the refusals of a step
+-- a rule, the taking of a message by the rules, what a draw of an amount does at a station, and the
+-- refusals of a step
 abbrev pub Rule : Type 0
 Rule = Side → Message → Ruled
 
@@ -74,7 +76,8 @@ builtWith refuses draws takes t step = answeredStep (answerOf (refuses t step)) 
 abbrev pub deliversBy : Taking → Build
 deliversBy takes = builtWith stepRefusals rightDrawing takes
 
--- all that is lent is taken for sound: the first refusal is left out, and no delivery of a message is refused
+-- all that is lent is taken for sound: the first refusal is left out, and no delivery of a message
+-- is refused
 abbrev later : List Refusal → List Refusal
 later [] = []
 later (r ∷ rs) = rs

@@ -1,4 +1,5 @@
--- Demand 3 clause by clause: what each says of one run of a build, so that a run can keep all but one of them.
+-- Demand 3 clause by clause: what each says of one run of a build, so that a run can keep all but
+-- one of them.
 use Prim.Native.Nat.{ℕ, _+_, _<_}
 use mathlib.Core.Path.{_≡_}
 use mathlib.Core.Bool.{true, false}

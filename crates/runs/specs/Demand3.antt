@@ -1,4 +1,5 @@
--- Demand 3, as one statement about a build: whatever list of steps it is given, from an empty table on.
+-- Demand 3, as one statement about a build: whatever list of steps it is given, from an empty table
+-- on.
 use Prim.Native.Nat.{ℕ, _+_}
 use mathlib.Core.Path.{_≡_}
 use mathlib.Core.Bool.{Bool, true, false}
@@ -26,11 +27,12 @@ amount q = q
 
 -- what holds of a table and of the log of the steps that led to it
 pub record Accounted (t : Table) (log : List Line) : Type 0 where
-  -- 1. The passes at all stations plus the passes on the way equal all passes added less all passes drawn. (Written with a sum: what was drawn stands on the
-  -- left, so that nothing is cut off at 0.)
+  -- 1. The passes at all stations plus the passes on the way equal all passes added less all passes
+  -- drawn. (Written with a sum: what was drawn stands on the left, so that nothing is cut off at
+  -- 0.)
   pub passes : atStations t + onTheWay t + drawn log ≡ added log
-  -- 2. Each arrival belongs to exactly one earlier departure between the same two stations, with both clocks equal and of the same amount; no departure
-  -- has two arrivals.
+  -- 2. Each arrival belongs to exactly one earlier departure between the same two stations, with
+  -- both clocks equal and of the same amount; no departure has two arrivals.
   pub pairing : Pairing (historyOf log)
   -- 3. The passes on the way equal all departures less all arrivals.
   pub way : onTheWay t + arrived amount (historyOf log) ≡ departed amount (historyOf log)
@@ -46,7 +48,8 @@ waitsFor (OneSlot l) k = agree k l
 pub record Demand3 (build : Build) (empty : Table) : Type 0 where
   -- after any list of steps, and so after every step of one
   pub accounted : (steps : List Step) → Accounted (tableAfter build empty steps) (logOf build empty steps)
-  -- 5. A token k that station i has stored for station j, and that is not on the way, counts for nothing: whatever is done later, it never lands.
+  -- 5. A token k that station i has stored for station j, and that is not on the way, counts for
+  -- nothing: whatever is done later, it never lands.
   pub stale : (steps later : List Step) (i j : ℕ) (k : Token)
       → tokenFor (stationAt (tableAfter build empty steps) i) j ≡ OneToken k
       → waitsFor (slotFor (stationAt (tableAfter build empty steps) j) i) k ≡ false

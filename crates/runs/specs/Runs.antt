@@ -1,4 +1,5 @@
--- A run: steps one after the other, the table that they leave, and the log of what was asked and reported. Everything that is counted is counted from the log.
+-- A run: steps one after the other, the table that they leave, and the log of what was asked and
+-- reported. Everything that is counted is counted from the log.
 use Prim.Native.Nat.{ℕ, _+_}
 use mathlib.Core.Bool.{Bool, true, false, cond}
 use mathlib.Core.List.{List, [], _∷_, _++_}

@@ -1,4 +1,5 @@
--- The closing lines: one station at a time, their lengths, and the sums that they tell. Assumes nothing.
+-- The closing lines: one station at a time, their lengths, and the sums that they tell. Assumes
+-- nothing.
 use Prim.Native.Nat.{ℕ, zero, suc, _+_, _*_, _≤_, _<_}
 use mathlib.Core.Path.{_≡_, refl, ap}
 use mathlib.Core.Bool.{true}

@@ -1,4 +1,5 @@
--- What a turn puts fits the buffer: the first bytes of the buffer, as many as the result says, are the bytes put. Assumes nothing.
+-- What a turn puts fits the buffer: the first bytes of the buffer, as many as the result says, are
+-- the bytes put. Assumes nothing.
 use Prim.Native.Nat.{ℕ, _+_, _*_, _≤_, _<_}
 use mathlib.Core.Path.{_≡_, refl}
 use mathlib.Core.Bool.{Bool, true, false}
@@ -69,7 +70,8 @@ module _ (script : List ℕ) (run : Run) (room : ℕ) where
   pub turn-fits : length (turnOf script run room .bytes) ≤ room
   turn-fits = by-sound (runSound run) refl
 
--- the first bytes of a buffer that was filled, and of one that the line of a refused script was put into
+-- the first bytes of a buffer that was filled, and of one that the line of a refused script was put
+-- into
 pub filled-first : (script : List ℕ) (run : Run) (out : List ℕ) {r : Filled} {later : List ℕ} → Fills script run out r later → take (r .result) later ≡ turnOf script run (length out) .bytes
 filled-first script run out f =
     let turn = turnOf script run (length out) in

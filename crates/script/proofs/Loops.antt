@@ -1,4 +1,5 @@
--- What the calls of the program's loop hand over is the script's output, by their promises alone. Assumes nothing.
+-- What the calls of the program's loop hand over is the script's output, by their promises alone.
+-- Assumes nothing.
 use Prim.Native.Nat.{ℕ, zero, suc, _≤_}
 use mathlib.Core.Path.{_≡_, refl, sym, ap, _∙_}
 use mathlib.Core.Bool.{true, false}

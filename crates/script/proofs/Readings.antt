@@ -1,4 +1,5 @@
--- Lines read one after the other: what is still to be read, where they end, and the numbers that they are read into. Assumes nothing.
+-- Lines read one after the other: what is still to be read, where they end, and the numbers that
+-- they are read into. Assumes nothing.
 use Prim.Native.Nat.{ℕ, zero, suc, _+_, _-_, _*_, _≤_, _<_}
 use mathlib.Core.Path.{_≡_, refl, sym, ap, _∙_}
 use mathlib.Core.Bool.{Bool, true, false, cond, _&&_, and-eq-true-iff}
@@ -75,7 +76,8 @@ pub past-zero : (script : List ℕ) (at : ℕ) → pastLines 0 script at ≡ at
 unfolding pastLines
 past-zero script at = refl
 
--- no more lines than were asked for, each of them moves the position on, and none past the script's end
+-- no more lines than were asked for, each of them moves the position on, and none past the script's
+-- end
 pub lines-few : (most : ℕ) (script : List ℕ) (at : ℕ) → length (linesFrom most script at) ≤ most
 lines-few zero script at = rw (lines-zero script at) (omega arith)
 lines-few (suc most) script at =
@@ -140,7 +142,8 @@ numbers-asked (OneStep (Send from to) ∷ xs) = rw (numbers-asked xs)
 numbers-asked (OneStep (Deliver p) ∷ xs) = rw (numbers-asked xs)
 numbers-asked (OneStep (Lose p) ∷ xs) = rw (numbers-asked xs)
 
--- Some lines are read: the numbers, the lines and the position, with those still to be read, are those of all lines.
+-- Some lines are read: the numbers, the lines and the position, with those still to be read, are
+-- those of all lines.
 pub record Reading (script : List ℕ) (start most : ℕ) (codes₀ codes : List ℕ) (at lines : ℕ) : Type 0 where
   pub few : lines ≤ most
   pub same : length codes ≡ length codes₀

@@ -1,4 +1,5 @@
--- A script starts with a sound table and its first step's number, or it is refused and prints one line. Assumes nothing.
+-- A script starts with a sound table and its first step's number, or it is refused and prints one
+-- line. Assumes nothing.
 use Prim.Native.Nat.{ℕ, zero, suc, _≤_, _<_}
 use mathlib.Core.Path.{_≡_, refl, sym}
 use mathlib.Core.Bool.{Bool, true, false, cond}
@@ -34,7 +35,8 @@ pub made-refused : (made : Stepped) (at n : ℕ) → made .answer ≡ n → (n �
 made-refused made at zero e f = absurd (f refl)
 made-refused made at (suc n) e f = rw e
 
--- how a script begins: with one line that refuses it, or with a sound table and number 1, at a position behind the first line
+-- how a script begins: with one line that refuses it, or with a sound table and number 1, at a
+-- position behind the first line
 pub data Begun (script : List ℕ) (s : Started) : Type 0 where
   refused : (n : ℕ) → s ≡ notStarted (suc n) → Begun script s
   going : (t : Table) (at : ℕ) → s ≡ record { answer = 0; result = 0; run = record { table = t; at = at; number = 1; finished = false } }

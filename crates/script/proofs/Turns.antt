@@ -1,4 +1,5 @@
--- A turn that puts the lines of steps: lines to numbers, numbers to what was told, and that to lines. Assumes nothing.
+-- A turn that puts the lines of steps: lines to numbers, numbers to what was told, and that to
+-- lines. Assumes nothing.
 use Prim.Native.Nat.{ℕ, _+_, _*_, _≤_, _<_}
 use mathlib.Core.Path.{_≡_, refl, sym, ap, _∙_}
 use mathlib.Core.Bool.{Bool, true, false, cond, and-eq-true-iff}

@@ -1,4 +1,5 @@
--- For every script and any buffer that a turn accepts, the program's loop puts the script's output, and ends because its run has finished. Assumes nothing.
+-- For every script and any buffer that a turn accepts, the program's loop puts the script's output,
+-- and ends because its run has finished. Assumes nothing.
 use Prim.Native.Nat.{ℕ, zero, suc, _+_, _≤_, _<_}
 use mathlib.Core.Path.{_≡_, refl, sym, _∙_}
 use mathlib.Core.Bool.{true, false}

@@ -55,7 +55,8 @@ closed run =
 abbrev pub fillRefusals : Run → ℕ → List Refusal
 fillRefusals run room = when (not (runSound run)) notSound ∷ when (ltb room closingRoom) shortBuffer ∷ []
 
--- refused by 1, 14; a finished run puts nothing; one with lines left puts the lines of steps, and one at its end the closing lines
+-- refused by 1, 14; a finished run puts nothing; one with lines left puts the lines of steps, and
+-- one at its end the closing lines
 unfoldable pub turnOf : List ℕ → Run → ℕ → Turn
 turnOf script run room =
     cond (not (runSound run)) (still notSound run)

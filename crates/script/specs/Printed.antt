@@ -1,4 +1,5 @@
--- What the program's loop puts: a script started, and then turn after turn until the run is finished, or the turns are used up.
+-- What the program's loop puts: a script started, and then turn after turn until the run is
+-- finished, or the turns are used up.
 use Prim.Native.Nat.{ℕ, zero, suc}
 use mathlib.Core.Path.{_≡_}
 use mathlib.Core.Bool.{true, false, cond}
@@ -9,7 +10,8 @@ use Rattle.script.specs.declared.starting.Run.{Run}
 use Rattle.script.specs.Starting.{answerLine, startedOf}
 use Rattle.script.specs.Filling.{Fills, turnOf}
 
--- the bytes that so many turns put into a buffer of this room, each behind those before it, and the run that they leave
+-- the bytes that so many turns put into a buffer of this room, each behind those before it, and the
+-- run that they leave
 unfoldable pub putIn : ℕ → ℕ → List ℕ → Run → List ℕ
 putIn zero room script run = []
 putIn (suc turns) room script run =
@@ -31,7 +33,8 @@ printedIn turns room script = let started = startedOf script in printedBy (start
 abbrev pub mostTurns : ℕ
 mostTurns = 65537
 
--- The calls of such a loop. Each fills a buffer of this room, whatever it held, and hands over as many of its first bytes as the result says.
+-- The calls of such a loop. Each fills a buffer of this room, whatever it held, and hands over as
+-- many of its first bytes as the result says.
 pub data Loops (script : List ℕ) (room : ℕ) : ℕ → Run → List ℕ → Run → Type 0 where
   used-up : {run : Run} → Loops script room 0 run [] run
   ended : {turns : ℕ} {run : Run} → run .finished ≡ true → Loops script room (suc turns) run [] run

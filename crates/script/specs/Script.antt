@@ -30,7 +30,8 @@ stationLines t (suc k) = let s = stationAt t k in stationLines t k ++ stationLin
 abbrev pub closing : Table → List ℕ
 closing t = stationLines t (t .count) ++ wayLine (onTheWay t) ++ totalLine (atStations t + onTheWay t)
 
--- the steps from number n on, for what is left of the script: lines end in byte 10, and a last line with at least one byte needs none
+-- the steps from number n on, for what is left of the script: lines end in byte 10, and a last line
+-- with at least one byte needs none
 unfoldable pub runFrom : ℕ → Table → ℕ → List ℕ → List ℕ
 runFrom zero t n rest = closing t
 runFrom (suc lines) t n [] = closing t

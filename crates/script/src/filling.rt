@@ -1,4 +1,5 @@
-// A script's output put into a lent buffer: the lines of as many steps as have room there, and in a last turn the closing lines.
+// A script's output put into a lent buffer: the lines of as many steps as have room there, and in a
+// last turn the closing lines.
 ghost use mathlib.Core.Path.{_≡_};
 ghost use mathlib.Core.Bool.{true};
 ghost use Prim.Native.Nat.{_≤_};

@@ -29,7 +29,8 @@ fn pair_of(words: &[u8]) -> Pair
     Pair::Both(n, k)
 }
 
-// The step of a word and what stands behind it. The words of one number come first: past them a line without two is none.
+// The step of a word and what stands behind it. The words of one number come first: past them a
+// line without two is none.
 fn line_by(word: &[u8], rest: &[u8]) -> Asked
     ensures { λ r. ⌜ r ≡ lineBy (now (word .entry)) (now (rest .entry)) ⌝ }
 {

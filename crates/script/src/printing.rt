@@ -1,4 +1,5 @@
-// Text and numbers put into a lent buffer from a position on. Each function answers the position past what it put.
+// Text and numbers put into a lent buffer from a position on. Each function answers the position
+// past what it put.
 ghost use mathlib.Core.Path.{_≡_};
 ghost use mathlib.Core.List.{[], _∷_, _++_};
 ghost use Prim.Native.Nat.{_+_, _≤_};

@@ -1,4 +1,5 @@
-// A script's lines, found by the position that they start at, and read into numbers: three for each line.
+// A script's lines, found by the position that they start at, and read into numbers: three for each
+// line.
 ghost use mathlib.Core.Path.{_≡_};
 ghost use Prim.Native.Nat.{_+_, _*_, _≤_};
 ghost use lib.ListN.{length, drop};

@@ -33,7 +33,8 @@ pub struct Put {
     pub result: u64,
 }
 
-// A script that is refused. No station is a bad count, so that the table is the one of such a refusal.
+// A script that is refused. No station is a bad count, so that the table is the one of such a
+// refusal.
 fn not_started(answer: u8) -> Started
     ensures { λ r. ⌜ r ≡ notStarted answer ⌝ }
 {
@@ -80,7 +81,8 @@ pub fn start(script: &[u8]) -> Started
     }
 }
 
-// The line of a script that is refused: refused itself by 14, where there is no room for the longest line.
+// The line of a script that is refused: refused itself by 14, where there is no room for the
+// longest line.
 pub fn put_answer(answer: u8, out: &mut [u8]) -> Put
     ensures { λ r. ⌜ PutsAnswer answer (now (out .entry)) r (now (out .exit)) ⌝ }
 {

@@ -6,7 +6,8 @@ ghost use lib.Seq.{sets};
 ghost use Rattle.script.specs.Telling.{saidIn};
 use crate::printing::put_says;
 
-// The lines of so many steps, numbered from the first one's number on. Answers how many bytes were put.
+// The lines of so many steps, numbered from the first one's number on. Answers how many bytes were
+// put.
 pub(crate) fn put_told(told: &[u64], steps: usize, first: u64, out: &mut [u8]) -> usize
     requires { ⌜ (5 * steps ≤ length (now told)) × (64 * steps ≤ length (now out)) × (first + steps < 2 ^ 64) ⌝ }
     ensures { λ r. ⌜ (r ≡ length (saidIn steps first (now (told .entry)))) × (now (out .exit) ≡ sets (now (out .entry)) 0 (saidIn steps first (now (told .entry)))) ⌝ }

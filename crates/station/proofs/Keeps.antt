@@ -1,5 +1,5 @@
--- Every step of a sound station leaves a sound station that is still the same one of its table, and the message that a sound station has for
--- another is sound. Assumes nothing.
+-- Every step of a sound station leaves a sound station that is still the same one of its table, and
+-- the message that a sound station has for another is sound. Assumes nothing.
 use Prim.Native.Nat.{ℕ, zero, suc, _+_, _-_, _<_, _≤_, min}
 use mathlib.Core.Path.{_≡_, refl, sym, _∙_}
 use mathlib.Core.Bool.{true, false, not, or-true}

@@ -1,4 +1,5 @@
--- A sound side, with its clocks where they were or later, put back for a peer leaves a sound station. Assumes nothing.
+-- A sound side, with its clocks where they were or later, put back for a peer leaves a sound
+-- station. Assumes nothing.
 use Prim.Native.Nat.{ℕ, _<_, _≤_}
 use mathlib.Core.Path.{_≡_, refl}
 use mathlib.Core.Bool.{true, _||_, and-false}
@@ -45,7 +46,8 @@ pub side-sound : (s : Station) (k : ℕ) → SoundStation s → k < mostStations
 side-sound s k w h =
     record { value = w .value; source = (omega arith, w .source); destination = (omega arith, w .destination); slot = w .slots k h; token = w .tokens k h }
 
--- what a station holds for itself, or for a number not below the count, stays nothing: a side is put back only for a peer
+-- what a station holds for itself, or for a number not below the count, stays nothing: a side is
+-- put back only for a peer
 pub put-sound : (s : Station) (k : ℕ) {x : Side} → SoundStation s → isPeer s k ≡ true → SoundSide (sideFor s k) x → SoundStation (putSide s k x)
 put-sound s k {x} w peer v =
     record {

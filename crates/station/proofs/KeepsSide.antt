@@ -74,7 +74,8 @@ module _ {o x : Side} (w : SoundSide o x) where
         token = w .token;
       })
 
-  -- the token made bears the source clock that then goes up, and a destination clock below the one that the message shows
+  -- the token made bears the source clock that then goes up, and a destination clock below the one
+  -- that the message shows
   make-token-keeps : (m : Message) → SoundMessage m → (h : HeldSlot) → slotSound h (m .destination) ≡ true → SoundSide o (makeTokenBy x h .side)
   make-token-keeps m shows NoSlot sound = w
   make-token-keeps m shows (OneSlot l) sound =

@@ -1,4 +1,5 @@
--- The part of a station that the five rules see when it takes a message, and a station with that part put back.
+-- The part of a station that the five rules see when it takes a message, and a station with that
+-- part put back.
 use Prim.Native.Nat.{ℕ}
 use lib.ListN.{set}
 use Rattle.station.specs.declared.station.Station.{Station}

@@ -1,4 +1,5 @@
--- The entry points of one station: what each answers, under which conditions in which order, and what it does.
+-- The entry points of one station: what each answers, under which conditions in which order, and
+-- what it does.
 use Prim.Native.Nat.{ℕ, zero, suc, _+_, _-_, min}
 use mathlib.Core.Bool.{Bool, not, _&&_}
 use mathlib.Core.List.{List, [], _∷_, _++_}
@@ -98,7 +99,8 @@ drawOf s amount =
     let taken = min (s .value) amount in
     answered (drawAnswer s amount) s (told taken noReport (putStock s (s .value - taken) (s .intake)))
 
--- A message shows from, to, the sender's value and both its clocks, its slot and its token for the receiver.
+-- A message shows from, to, the sender's value and both its clocks, its slot and its token for the
+-- receiver.
 abbrev pub messageFor : Station → ℕ → Message
 messageFor s to =
     record {

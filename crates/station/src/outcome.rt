@@ -1,4 +1,5 @@
-// What an entry point tells: the numbered answer, the result, the report, and the station as it then is.
+// What an entry point tells: the numbered answer, the result, the report, and the station as it
+// then is.
 ghost use mathlib.Core.Path.{_≡_};
 ghost use Rattle.station.specs.Outcome.{refused};
 use crate::station::Station;

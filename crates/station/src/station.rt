@@ -5,8 +5,8 @@ use rules::clocks::DestinationClock;
 use rules::clocks::SourceClock;
 use rules::limits::MOST_STATIONS;
 
-// Its own number and the count of stations, its value, its intake, its two clocks, and for every peer at most one slot
-// and at most one token.
+// Its own number and the count of stations, its value, its intake, its two clocks, and for every
+// peer at most one slot and at most one token.
 pub struct Station {
     pub number: usize,
     pub count: usize,

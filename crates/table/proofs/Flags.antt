@@ -1,4 +1,5 @@
--- The places of a pool that are taken, as numbers: the search finds the lowest-numbered empty place. Assumes nothing.
+-- The places of a pool that are taken, as numbers: the search finds the lowest-numbered empty
+-- place. Assumes nothing.
 use Prim.Native.Nat.{ℕ, zero, suc, _+_, _<_}
 use mathlib.Core.Path.{_≡_, refl, sym, _∙_, ap}
 use mathlib.Core.Bool.{Bool, true, false}

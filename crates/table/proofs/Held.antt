@@ -1,4 +1,5 @@
--- What the stations hold, in one row: a cell of it is what one station holds for another, and stays so when a station is put anew. Assumes nothing.
+-- What the stations hold, in one row: a cell of it is what one station holds for another, and stays
+-- so when a station is put anew. Assumes nothing.
 use Prim.Native.Nat.{ℕ, zero, suc, _+_, _*_, _/_, _%_, _<_}
 use mathlib.Core.Path.{_≡_, refl, sym, _∙_, ap}
 use mathlib.Core.Bool.{Bool, true, false}

@@ -1,4 +1,5 @@
--- A step done where the table is held: what its plan changes, by what it looked up, leaves the table that the step leaves, and tells what the step tells.
+-- A step done where the table is held: what its plan changes, by what it looked up, leaves the
+-- table that the step leaves, and tells what the step tells.
 -- Assumes nothing.
 use Prim.Native.Nat.{ℕ, zero, suc, _+_, _-_, _<_, _≤_, min}
 use mathlib.Core.Path.{_≡_, refl, sym, _∙_}

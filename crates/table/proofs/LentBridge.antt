@@ -1,4 +1,5 @@
--- From a pool by value to a lent one and back, for any step on a lent pool: the array is lent for a lifetime of the call, and is then the last list that the step tells.
+-- From a pool by value to a lent one and back, for any step on a lent pool: the array is lent for a
+-- lifetime of the call, and is then the last list that the step tells.
 --     bridge k τ      the code of such a function: k is the step that it calls, and τ the type of the step's value
 --     bridged         it meets its contract where the step does
 use mathlib.Core.Path.{_≡_, refl, sym, ap, subst, _∙_}

@@ -1,4 +1,6 @@
--- What the walks over a lent pool share. In a walk the pool stands in front, in three parts: what is observed of it, its borrow and the lifetime's token. Behind it the locals stand in their order, each in two parts, so local i stands at 3 + 2 i.
+-- What the walks over a lent pool share. In a walk the pool stands in front, in three parts: what
+-- is observed of it, its borrow and the lifetime's token. Behind it the locals stand in their
+-- order, each in two parts, so local i stands at 3 + 2 i.
 --     Saying, Promise    what a contract says of the arguments, the result and the parameters at exit; and that contract, which asks nothing
 --     Walk, gives, met   a walk goes from the arguments to what is promised; its last step; and the function then meets its contract
 --     PoolStep, telling  a step on the pool; and what a contract over a lent pool says of it
@@ -85,7 +87,8 @@ offset-fits i n l r = omega (arith, l, r)
 told-is : (t : Told) → t .answer < 2 ^ 8 → t .result < 2 ^ 64 → Is T.the-row t (LL.vals T.the-type T′.the-laws t)
 told-is t a r = LL.owes T.the-type T′.the-laws t ((refl, a), ((refl, r), tt))
 
--- where n locals stand once they are made, the last one first; and with the pool, behind them, in front
+-- where n locals stand once they are made, the last one first; and with the pool, behind them, in
+-- front
 abbrev pub pairs : ℕ → List ℕ
 pairs zero = []
 pairs (suc n) = (n * 2) ∷ (n * 2 + 1) ∷ pairs n

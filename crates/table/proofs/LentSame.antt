@@ -1,4 +1,5 @@
--- On 64 places the lent send and lose tell and leave what the table's send and lose do. Assumes nothing.
+-- On 64 places the lent send and lose tell and leave what the table's send and lose do. Assumes
+-- nothing.
 use Prim.Native.Nat.{ℕ, _<_}
 use mathlib.Core.Path.{_≡_, refl, sym, _∙_}
 use native.Mathlib.Omega.{arith}

@@ -1,4 +1,5 @@
--- The place that a send takes: it was empty, every place before it holds a message, and a place freed by a loss is used again. Assumes nothing.
+-- The place that a send takes: it was empty, every place before it holds a message, and a place
+-- freed by a loss is used again. Assumes nothing.
 use Prim.Native.Nat.{ℕ, zero, suc, _+_, _<_, _≤_}
 use mathlib.Core.Path.{_≡_, refl, sym, _∙_, ap}
 use mathlib.Core.Bool.{Bool, true, false}

@@ -1,4 +1,5 @@
--- What is put into a sound table leaves it sound, and what a step of a seated station leaves may be put there. Assumes nothing.
+-- What is put into a sound table leaves it sound, and what a step of a seated station leaves may be
+-- put there. Assumes nothing.
 use Prim.Native.Nat.{ℕ, zero, suc, _<_}
 use mathlib.Core.Path.{_≡_, refl, _∙_}
 use mathlib.Core.Bool.{true, or-true}
@@ -19,7 +20,8 @@ use Rattle.table.specs.Sound.{seatSound, placeSound}
 use Rattle.rules.proofs.Stores.{stored}
 use Rattle.table.proofs.Tables.{Seated, Waits, SoundTable, seated}
 
--- in a sound table a station below the count is seated; and back: a seat, and a place with a message of the table, are sound
+-- in a sound table a station below the count is seated; and back: a seat, and a place with a
+-- message of the table, are sound
 pub seat-of : {t : Table} → SoundTable t → (k : ℕ) → k < t .count → Seated (stationAt t k) k (t .count)
 seat-of {t} w k h = seated (stationAt t k) k (t .count) h (w .seats k (omega (arith, w .most)))
 
@@ -48,7 +50,8 @@ show-waits {s} w to h e =
     let peer = shown s to (one .0) in
     rw (one .1) (record { sound = message-sound s to (one .0); from = omega (arith, w .number); to = omega (arith, w .count, peer .below) })
 
--- a sound table stays one where a seated station is put at its number, or at a place what is sound there
+-- a sound table stays one where a seated station is put at its number, or at a place what is sound
+-- there
 pub put-station : {t : Table} (k : ℕ) {s : Station} → SoundTable t → Seated s k (t .count) → SoundTable (putStation t k s)
 put-station {t} k w new =
     record {

@@ -1,4 +1,5 @@
--- Where no rule acts the side stays as it is, and what is put back as it was changes nothing. Assumes nothing.
+-- Where no rule acts the side stays as it is, and what is put back as it was changes nothing.
+-- Assumes nothing.
 use Prim.Native.Nat.{ℕ, zero, suc, _+_, min}
 use mathlib.Core.Path.{_≡_, refl, ap, _∙_}
 use mathlib.Core.Bool.{Bool, true, false, cond, _&&_, true≢false, or-true}

@@ -1,4 +1,5 @@
--- A step of a sound table tells and does what the step of its one station does, and a message sent is the one that its sender shows. Assumes nothing.
+-- A step of a sound table tells and does what the step of its one station does, and a message sent
+-- is the one that its sender shows. Assumes nothing.
 use Prim.Native.Nat.{ℕ, zero, suc, _<_, _+_, _-_, min}
 use mathlib.Core.Path.{_≡_, refl, sym, _∙_, ap}
 use mathlib.Core.Bool.{true, not}
@@ -33,7 +34,8 @@ use Rattle.table.specs.Steps.{did, answeredStep, overfills, stepOf}
 use Rattle.table.proofs.Puts.{seat-of}
 use Rattle.table.proofs.Tables.{table-parts, waits}
 
--- a step of a table tells what an outcome tells, station k is afterwards the outcome's, and nothing else changes
+-- a step of a table tells what an outcome tells, station k is afterwards the outcome's, and nothing
+-- else changes
 pub record SameAt (t : Table) (k : ℕ) (r : Outcome) (x : Stepped) : Type 0 where
   pub answer : x .answer ≡ r .answer
   pub result : x .result ≡ r .result
@@ -106,7 +108,8 @@ module _ (t : Table) (sound : tableSound t ≡ true) (full : length (t .stations
       )
       (same-by t (m .to) (answerOf (when (overfills t (One m)) valueLimit ∷ [])) (r .result) (r .report) (putSide s (m .from) (r .side)) (there (m .to) (at .to)))
 
--- a send that is not refused puts the sender's message into the lowest empty place, and changes nothing else
+-- a send that is not refused puts the sender's message into the lowest empty place, and changes
+-- nothing else
 pub record SentAt (t : Table) (p : ℕ) (m : Message) (x : Stepped) : Type 0 where
   pub answer : x .answer ≡ 0
   pub result : x .result ≡ p

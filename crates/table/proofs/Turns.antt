@@ -1,4 +1,5 @@
--- One turn of the loop that holds a table: what is still to be done from there gives the whole. Assumes nothing.
+-- One turn of the loop that holds a table: what is still to be done from there gives the whole.
+-- Assumes nothing.
 use Prim.Native.Nat.{ℕ, zero, suc, _+_, _*_, _-_, _<_, _≤_}
 use mathlib.Core.Path.{_≡_, refl, sym, _∙_, ap}
 use mathlib.Core.Bool.{true}
@@ -48,8 +49,8 @@ asked-ended : (codes : List ℕ) (steps n : ℕ) → steps ≤ n → askedFrom c
 unfolding askedIn
 asked-ended codes steps n h = let e : steps - n ≡ 0 = omega arith in rw e
 
--- where the loop stands: the table is sound, the flags are those of its pool, the cells those of its stations, and what is left to do from here gives the
--- whole
+-- where the loop stands: the table is sound, the flags are those of its pool, the cells those of
+-- its stations, and what is left to do from here gives the whole
 pub record Going (codes told₀ : List ℕ) (steps : ℕ) (t₀ : Table) (told : List ℕ) (t : Table) (cells : List Cells) (taken : List ℕ) (n : ℕ) : Type 0 where
   pub count : n ≤ steps
   pub room : length told ≡ length told₀

@@ -1,4 +1,5 @@
--- What of a table a step looks at. An index that is too large is looked up as 0: the step is then refused, whatever stands there.
+-- What of a table a step looks at. An index that is too large is looked up as 0: the step is then
+-- refused, whatever stands there.
 use Prim.Native.Nat.{ℕ}
 use mathlib.Core.List.{List, map}
 use lib.Dec.{eqb}

@@ -1,5 +1,5 @@
--- What a step will do, by no more of a table than it looks at: the count, one station's stock and its side to one peer, what waits at one place, and the
--- lowest-numbered empty place.
+-- What a step will do, by no more of a table than it looks at: the count, one station's stock and
+-- its side to one peer, what waits at one place, and the lowest-numbered empty place.
 use Prim.Native.Nat.{ℕ, zero, suc, _<_}
 use mathlib.Core.Bool.{Bool, cond, not, _&&_, _||_}
 use mathlib.Core.List.{List, [], _∷_}

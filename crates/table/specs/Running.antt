@@ -1,4 +1,5 @@
--- A run of steps in one call: steps as numbers, three for each, and what each tells as numbers, five for each.
+-- A run of steps in one call: steps as numbers, three for each, and what each tells as numbers,
+-- five for each.
 use Prim.Native.Nat.{ℕ, zero, suc, min, _/_, _%_}
 use mathlib.Core.Path.{_≡_}
 use mathlib.Core.Bool.{cond}
@@ -19,7 +20,8 @@ use Rattle.table.specs.declared.table.Table.{Table}
 use Rattle.table.specs.Sound.{tableSound}
 use Rattle.table.specs.Steps.{stepOf}
 
--- 0 an add, 1 a draw, 2 a send, 3 a delivery, 4 a loss, with its numbers; any other names no step. Of a delivery and a loss the last number is not looked at
+-- 0 an add, 1 a draw, 2 a send, 3 a delivery, 4 a loss, with its numbers; any other names no step.
+-- Of a delivery and a loss the last number is not looked at
 abbrev pub askedBy : ℕ → ℕ → ℕ → Asked
 askedBy kind a b =
     cond (eqb kind 0) (OneStep (Add a b))
@@ -45,7 +47,8 @@ abbrev pub askedStep : Table → Asked → Stepped
 askedStep t NoStep = record { answer = badLine; result = 0; report = noReport; table = t }
 askedStep t (OneStep step) = stepOf t step
 
--- the answer, the result, the rules that acted as a sum of 1, 2, 4, 8, 16, the quantity of a slot opened and that of a token made
+-- the answer, the result, the rules that acted as a sum of 1, 2, 4, 8, 16, the quantity of a slot
+-- opened and that of a token made
 abbrev pub tells : Stepped → List ℕ
 tells s = s .answer ∷ s .result ∷ rulesOf (s .report) ∷ s .report .opened ∷ s .report .made ∷ []
 

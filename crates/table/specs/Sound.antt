@@ -1,5 +1,5 @@
--- When a table is sound: its count, stations and messages are, each station carries its own place as number and the table's count, and every from and to
--- is below the count.
+-- When a table is sound: its count, stations and messages are, each station carries its own place
+-- as number and the table's count, and every from and to is below the count.
 use Prim.Native.Nat.{ℕ}
 use mathlib.Core.Bool.{Bool, true, _&&_, _||_}
 use lib.Dec.{ltb, leb, eqb}

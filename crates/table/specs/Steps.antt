@@ -1,4 +1,5 @@
--- The steps of a table: the refusals of each in their order, and what it does where none of them holds.
+-- The steps of a table: the refusals of each in their order, and what it does where none of them
+-- holds.
 use Prim.Native.Nat.{ℕ, zero, suc, _+_, _-_, min}
 use mathlib.Core.Bool.{Bool, false, not, _&&_}
 use mathlib.Core.List.{List, [], _∷_}
@@ -41,11 +42,13 @@ added t k amount s = did (s .value + amount) noReport (putStation t k (putStock 
 abbrev pub drawn : Table → ℕ → ℕ → Station → Stepped
 drawn t k taken s = did taken noReport (putStation t k (putStock s (s .value - taken) (s .intake)))
 
--- Send writes the sender's message into the lowest-numbered empty place. The sender does not change. Result: the place.
+-- Send writes the sender's message into the lowest-numbered empty place. The sender does not
+-- change. Result: the place.
 abbrev pub sent : Table → ℕ → Message → Stepped
 sent t p m = did p noReport (putPlace t p (One m))
 
--- Deliver lets the receiver take the message at a place by the five rules. The message stays. Result: the amount filled, or 0.
+-- Deliver lets the receiver take the message at a place by the five rules. The message stays.
+-- Result: the amount filled, or 0.
 abbrev pub taken : Table → Message → Station → Stepped
 taken t m s = let r = takeOf (sideFor s (m .from)) m in did (r .result) (r .report) (putStation t (m .to) (putSide s (m .from) (r .side)))
 

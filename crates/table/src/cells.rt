@@ -1,4 +1,5 @@
-// What the stations of a table hold for each other, in one row of cells that a step can be shown one of: of a station in an array no single cell can be read.
+// What the stations of a table hold for each other, in one row of cells that a step can be shown
+// one of: of a station in an array no single cell can be read.
 ghost use mathlib.Core.Path.{_≡_};
 ghost use Prim.Native.Nat.{_<_};
 ghost use Rattle.rules.specs.Limits.{mostStations};

@@ -1,4 +1,5 @@
-// A pool that is lent: its places stand in the caller's memory, and a step changes at most one of them.
+// A pool that is lent: its places stand in the caller's memory, and a step changes at most one of
+// them.
 ghost use mathlib.Core.Path.{_≡_};
 ghost use Rattle.table.specs.Lent.{SendsIn, LosesIn, sentValue, lostValue, cleared, holding};
 use crate::pool::MOST_PLACES;
@@ -104,7 +105,8 @@ pub(crate) fn both(told: Told, pool: [Place; MOST_PLACES]) -> Pooled
     Pooled { told, pool }
 }
 
-// The same two steps, on a pool by value. What they promise names no reference, so that a caller needs none.
+// The same two steps, on a pool by value. What they promise names no reference, so that a caller
+// needs none.
 pub fn send_value(pool: [Place; MOST_PLACES], m: Message) -> Pooled
     ensures { λ r. ⌜ r ≡ sentValue pool m ⌝ }
 {

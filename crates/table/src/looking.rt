@@ -1,4 +1,5 @@
-// What of a table a step looks at. An index that is too large is looked up as 0: the step is then refused, whatever stands there.
+// What of a table a step looks at. An index that is too large is looked up as 0: the step is then
+// refused, whatever stands there.
 ghost use mathlib.Core.Path.{_≡_};
 ghost use Rattle.table.specs.Table.{below, mostPlaces};
 ghost use Rattle.table.specs.Looking.{placeLookedAt, lookedAt, endsOf, seatLookedAt, freeFor};

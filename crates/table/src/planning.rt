@@ -1,4 +1,5 @@
-// What a step will do, by no more of a table than it looks at: one station, its cells for one peer, one place, and the lowest-numbered empty place.
+// What a step will do, by no more of a table than it looks at: one station, its cells for one peer,
+// one place, and the lowest-numbered empty place.
 ghost use mathlib.Core.Path.{_≡_};
 ghost use Rattle.table.specs.Planning.{refusedPlan, stockPlan, placePlan, messageBy, sendPlan, sidePlan, deliverPlan, losePlan, planAt};
 use crate::pool::MOST_PLACES;
@@ -13,7 +14,8 @@ use rules::side::Side;
 use rules::stock::Stock;
 use rules::taking::Taken;
 
-// What becomes of the one station or place: another stock, another side to the peer, another thing that waits.
+// What becomes of the one station or place: another stock, another side to the peer, another thing
+// that waits.
 pub enum Change {
     Nothing,
     AtStock(u64, u64),

@@ -92,8 +92,9 @@ fn put_told(told: &mut [u64], at: usize, answer: u8, result: u64, report: Report
     told[at + 4] = report.made;
 }
 
-// The loop holds the table: a table is large, and a call copies what it is given. So no call in the loop is given the table, and each step changes its one
-// station or place right here. Which places are taken and what the stations hold is kept beside it, to be looked at without a copy.
+// The loop holds the table: a table is large, and a call copies what it is given. So no call in the
+// loop is given the table, and each step changes its one station or place right here. Which places
+// are taken and what the stations hold is kept beside it, to be looked at without a copy.
 fn run_sound(t: Table, codes: &[u64], told: &mut [u64], steps: usize) -> Ran
     requires { ⌜ (tableSound t ≡ true) × (3 * steps ≤ length (now codes)) × (5 * steps ≤ length (now told)) ⌝ }
     ensures { λ r. ⌜ (r ≡ ranBy t steps (now (codes .entry))) × (now (told .exit) ≡ sets (now (told .entry)) 0 (toldBy t (askedIn steps (now (codes .entry))))) ⌝ }

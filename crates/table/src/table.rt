@@ -4,7 +4,8 @@ use crate::pool::Place;
 use rules::limits::MOST_STATIONS;
 use station::station::Station;
 
-// The count of its stations, an array of stations by number, and the pool. What stands at a number not below the count is no part of the table.
+// The count of its stations, an array of stations by number, and the pool. What stands at a number
+// not below the count is no part of the table.
 pub struct Table {
     pub count: usize,
     pub stations: [Station; MOST_STATIONS],

@@ -1,4 +1,5 @@
-// Which places of a pool are taken, as numbers that a search can be lent: 1 where a message waits, 0 where a place is empty.
+// Which places of a pool are taken, as numbers that a search can be lent: 1 where a message waits,
+// 0 where a place is empty.
 ghost use mathlib.Core.Path.{_≡_};
 ghost use Rattle.table.specs.Looking.{flagOf, flagsOf, lowestZero};
 use crate::pool::MOST_PLACES;

@@ -1,4 +1,5 @@
-// Input at the edges, through the compiled entry points. Each line is the words, the answer and the result.
+// Input at the edges, through the compiled entry points. Each line is the words, the answer and the
+// result.
 use libc::STDOUT_FILENO;
 use rules::clocks::DestinationClock;
 use rules::clocks::SourceClock;

@@ -1,4 +1,5 @@
--- From plain bytes to a reading: a reader at the first byte, then its message. What the two calls tell is put together at the end.
+-- From plain bytes to a reading: a reader at the first byte, then its message. What the two calls
+-- tell is put together at the end.
 use mathlib.Core.Path.{_≡_, refl, ap, _∙_}
 use Prim.Native.Nat.{ℕ}
 use mathlib.Core.List.{List, [], _∷_}
@@ -57,7 +58,8 @@ module _ {M : Type 1} (𝓤 : URA M) (H : Heap 𝓤) (𝓜 : Model 𝓤 H) (𝓖
       land ! (from ! (stop !)) (init ! 1 refl (LL.lawful (reader.the-type life) (reader-laws.the-laws life) 𝓤 H (𝓖 .A) (givenOf 𝓤 H 𝓜 𝓖) .typed r _ is .0)) $
       use1 (givenOf 𝓤 H 𝓜 𝓖) (raw (brought 𝓤 H (𝓖 .A) message.signature (to r v))) (monoR 𝓤 (alive 𝓤 H (𝓖 .A) read.signature κs qs) (beside 𝓤 (sem 𝓤 H (𝓖 .A) (reader.the-row (namedLft 1 0 tt κs) .own r (v ∷ []))))) $
       calls 𝓤 H 𝓜 𝓖 𝓡 message.ended finds (to r v) ! code.env message-def.routine code.calls-record·reader·Reader·message (message-thm.met 𝓤 H 𝓜 𝓖 𝓡) (and-then ! (load ! (from ! (stop !)) (look ! 1 refl)) (no-more !)) (λ v′ r′ e′ is′.
-      -- in front stands what is owned of the reading; then reader, slice and the room for the reading, each in two parts
+      -- in front stands what is owned of the reading; then reader, slice and the room for the
+      -- reading, each in two parts
       land ! (from ! (stop !)) (init ! 5 refl (LL.lawful reading.the-type reading-laws.the-laws 𝓤 H (𝓖 .A) (givenOf 𝓤 H 𝓜 𝓖) .typed r′ _ is′ .0)) $
       returns ! (look ! 5 refl) $ forget ! 1 refl $ forget ! 3 refl $ forget ! 5 refl $ move ! (5 ∷ 6 ∷ []) $ free1 ! $ move ! (3 ∷ 4 ∷ []) $ free1 ! $ move ! (1 ∷ 2 ∷ []) $ free1 ! $ free0 ! $
       by ! (gives 𝓤 H 𝓜 𝓖 𝓡 read.ended whole x v′ r′ (tt, tt) (emp∗ 𝓤 (emp 𝓤)) (e′ ∙ (ap (λ (t : RefT (List ℕ)). readAt (now t) (r .at)) (e .0) ∙ ap (readAt (now s)) (e .1)))))))))

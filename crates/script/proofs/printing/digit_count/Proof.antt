@@ -8,7 +8,8 @@ use Rattle.script.proofs.Decimals.{decimal-one, length-decimal, length-
 use Rattle.script.proofs.printing.digit_count.Statement.{statement}
 use Rattle.script.proofs.printing.digit_count.Tie as tie
 
--- what is counted and what is still to be counted is one more than all, since the last digit is in both
+-- what is counted and what is still to be counted is one more than all, since the last digit is in
+-- both
 abbrev Inv-loop : tie.InvT-loop
 Inv-loop n rest₀ count₀ rest count = (rest ≤ n) × (count + length (decimal rest) ≡ 1 + length (decimal n))
 

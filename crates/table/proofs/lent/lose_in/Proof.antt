@@ -1,4 +1,5 @@
--- The three tests, then the place is emptied. The place is read before the third test, and stored to after it.
+-- The three tests, then the place is emptied. The place is read before the third test, and stored
+-- to after it.
 use mathlib.Core.Path.{_≡_, refl, subst, sym}
 use Prim.Native.Nat.{ℕ, suc, _<_, _^_, _*_}
 use mathlib.Core.List.{List, [], _∷_}

@@ -1,4 +1,5 @@
--- The test, the search, then the message is stored. A turn of the search reads the place p, and every place before p is taken.
+-- The test, the search, then the message is stored. A turn of the search reads the place p, and
+-- every place before p is taken.
 use mathlib.Core.Path.{_≡_, refl, subst, sym, _∙_}
 use Prim.Native.Nat.{ℕ, suc, _<_, _≤_, _^_, _*_, _+_, _-_, zero-le}
 use mathlib.Core.Bool.{Bool, not}

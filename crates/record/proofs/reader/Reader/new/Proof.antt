@@ -1,4 +1,5 @@
--- A new reader stands at the first byte of the record it is lent. What the slice owns moves into it; a position owns nothing.
+-- A new reader stands at the first byte of the record it is lent. What the slice owns moves into
+-- it; a position owns nothing.
 use mathlib.Core.Path.{refl}
 use Prim.Native.Nat.{ℕ}
 use mathlib.Core.List.{List, [], _∷_}
