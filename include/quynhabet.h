@@ -9,7 +9,7 @@
  * check sum, and nothing here can see that one was changed or cut short: such bytes may be taken
  * as another record, and then passes are made out of nothing or are gone. Use a transport that
  * checks and hands over whole messages; where stations may be hostile, one that authenticates.
- * Records that come twice, late, out of order or never do no such harm.
+ * A network that repeats, drops, delays and reorders whole records is what it is made for.
  *
  * SAVING. The 134 numbers of a station are what it keeps on disk.
  *   - The state is saved before any record or drawn pass leaves the station.
