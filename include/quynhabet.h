@@ -11,10 +11,8 @@
  * checks and hands over whole messages; where stations may be hostile, one that authenticates.
  * A network that repeats, drops, delays and reorders whole records is what it is made for.
  *
- * SAVING. The 134 numbers of a station are what it keeps on disk.
- *   - The state is saved before any record or drawn pass leaves the station.
- *   - An older save is never loaded again. No two programs run the same station.
- * Otherwise passes may be lost or doubled.
+ * SAVING. A station's numbers are saved before any record or drawn pass leaves it, and an older
+ * save is never loaded again: the rule in full is in docs/FROM-C-AND-RUST.md.
  *
  * WHAT IS PROVED. Each function tells and leaves exactly what its definition says, for any numbers
  * and any bytes. That no pass is lost or doubled is proved of whole runs of a table of stations;
