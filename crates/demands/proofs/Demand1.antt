@@ -20,8 +20,7 @@ use Rattle.rules.specs.Stock.{stocked, addToAnswer, addedTo, drawFromAnswer, dr
 use Rattle.rules.specs.Taking.{takeOf, takeAnswer, takenBy, takenOf}
 use Rattle.station.specs.Outcome.{answered}
 use Rattle.rules.specs.Message.{noMessage}
-use Rattle.station.specs.Steps.{freshAnswer, addAnswer, drawAnswer, showAnswer, showing, receiveAnswer}
-use Rattle.station.specs.Steps.{messageFor, freshOf, addOf, drawOf, showOf, receiveOf}
+use Rattle.station.specs.Steps.{freshAnswer, addAnswer, drawAnswer, showAnswer, showing, receiveAnswer, messageFor, freshOf, addOf, drawOf, showOf, receiveOf}
 use Rattle.record.specs.declared.reading.Reading.{Reading}
 use Rattle.record.specs.declared.writing.Written.{Written}
 use Rattle.record.specs.Reading.{isRecord, noReading, readAt, readOf}
@@ -32,20 +31,21 @@ use Rattle.quynhabet.specs.declared.told.Told.{Told}
 use Rattle.quynhabet.specs.Exports.{Given, Gives, plainTold, toldOf, outcomeBy, refusedBy, writtenBy, readingBy, checkOf, freshBy, addBy, drawBy, showBy, receiveBy, readBy, writeBy}
 use Rattle.quynhabet.specs.Layout.{numbersOf, stationOf, stationFits, messageNumbers, messageOf, messageFits}
 use Rattle.quynhabet.proofs.Giving.{kept-refused}
-use Rattle.table.specs.declared.running.Ran.{Ran}
-use Rattle.table.specs.declared.steps.Step.{Step}
-use Rattle.table.specs.declared.steps.Step.the-variants.{Add, Draw, Send, Deliver, Lose}
-use Rattle.table.specs.declared.pool.Place.{Place}
-use Rattle.table.specs.declared.pool.Waiting.{Waiting}
-use Rattle.table.specs.declared.pool.Waiting.the-variants.{Empty, One}
-use Rattle.table.specs.declared.stepping.Stepped.{Stepped}
+use Rattle.steps.specs.declared.running.Ran.{Ran}
+use Rattle.steps.specs.declared.asked.Step.{Step}
+use Rattle.steps.specs.declared.asked.Step.the-variants.{Add, Draw, Send, Deliver, Lose}
+use Rattle.pool.specs.declared.places.Place.{Place}
+use Rattle.pool.specs.declared.places.Waiting.{Waiting}
+use Rattle.pool.specs.declared.places.Waiting.the-variants.{Empty, One}
+use Rattle.table.specs.declared.stepped.Stepped.{Stepped}
 use Rattle.table.specs.declared.table.Table.{Table}
 use Rattle.table.specs.Sound.{tableSound}
 use Rattle.table.specs.Fresh.{freshRefusals, seatsTo, freshOf as freshTableOf}
-use Rattle.table.specs.Lent.{told, left, sendInAnswer, loseInAnswer}
-use Rattle.table.specs.Running.{ranOf, toldOf as toldByRun}
+use Rattle.pool.specs.Lent.{told, left, sendInAnswer, loseInAnswer}
+use Rattle.steps.specs.Running.{ranOf, toldOf as toldByRun}
 use Rattle.table.specs.Table.{waitingAt}
-use Rattle.table.specs.Steps.{answeredStep, delivered, stepRefusals, stepDone, stepOf}
+use Rattle.table.specs.Stepped.{answeredStep}
+use Rattle.steps.specs.Steps.{delivered, stepRefusals, stepDone, stepOf}
 use Rattle.table.specs.Way.{sumRefusals, summed, onTheWay, atStations}
 use Rattle.script.proofs.Refused.{answer-refused, fill-refused, start-refused}
 use Rattle.demands.specs.Demand1.{noStation, noTable, RefusedSide, RefusedStock, RefusedAs, RefusedAsTable, RefusedRan, RefusedSum, Refused, RefusedNumbers, RefusedTold, Demand1}
@@ -190,14 +190,14 @@ demand1 =
           let m = messageOf message in
           gives-refused _ out (into-bytes (messageFits message) noRecord (writeAnswer m (length out)) (bytesOf m) out);
       table·fresh-table = makes;
-      table·step = steps;
-      table·run = λ t codes told r told′ p. rw (p .ran, p .lent) (no-run (tableSound t) t _ told _ refl);
+      steps·step = steps;
+      steps·run = λ t codes told r told′ p. rw (p .ran, p .lent) (no-run (tableSound t) t _ told _ refl);
       table·on-the-way = λ t. no-sum (answerOf (sumRefusals t)) (onTheWay t);
       table·at-stations = λ t. no-sum (answerOf (sumRefusals t)) (atStations t);
-      table·send-in = λ pool m r after e. rw (e .0, e .1) (in-pool (sendInAnswer pool) _ pool _);
-      table·lose-in = λ pool p r after e. rw (e .0, e .1) (in-pool (loseInAnswer pool p) _ pool _);
-      table·send-value = λ pool m. in-pool (sendInAnswer pool) _ pool _;
-      table·lose-value = λ pool p. in-pool (loseInAnswer pool p) _ pool _;
+      pool·send-in = λ pool m r after e. rw (e .0, e .1) (in-pool (sendInAnswer pool) _ pool _);
+      pool·lose-in = λ pool p r after e. rw (e .0, e .1) (in-pool (loseInAnswer pool p) _ pool _);
+      pool·send-value = λ pool m. in-pool (sendInAnswer pool) _ pool _;
+      pool·lose-value = λ pool p. in-pool (loseInAnswer pool p) _ pool _;
       script·start = start-refused;
       script·put-answer = λ answer out r out′ p. answer-refused answer out p;
       script·fill = λ script run out r out′ p. fill-refused script run out p;

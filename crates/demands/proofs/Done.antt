@@ -11,11 +11,11 @@ use Rattle.record.specs.Numbers.{big, numberAt}
 use Rattle.record.specs.Layout.{bytesOf}
 use Rattle.record.specs.Reading.{fieldAt, isRecord, readAt}
 use Rattle.record.specs.AtStation.{receiveBytesOf}
-use Rattle.table.specs.Table.{firstFrom}
+use Rattle.pool.specs.Pool.{firstFrom}
 use Rattle.table.specs.Sound.{tableSound}
 use Rattle.table.specs.Fresh.{seatsTo, freshOf}
-use Rattle.table.specs.Running.{askedIn, leftBy, ranOf}
-use Rattle.table.specs.Steps.{stepOf}
+use Rattle.steps.specs.Running.{askedIn, leftBy, ranOf}
+use Rattle.steps.specs.Steps.{stepOf}
 use Rattle.script.specs.Words.{numeralOf}
 use Rattle.script.specs.Lines.{stationsOf}
 use Rattle.script.specs.Starting.{startedOf}

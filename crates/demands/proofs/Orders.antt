@@ -28,22 +28,24 @@ use Rattle.record.proofs.Showing.{written-tells}
 use Rattle.quynhabet.specs.declared.told.Told.{Told}
 use Rattle.quynhabet.specs.Exports.{Given, Gives, refusedBy, checkRefusals, checkOf, freshBy, addBy, drawBy, showBy, receiveBy, readBy, writeBy}
 use Rattle.quynhabet.specs.Layout.{stationOf, stationFits, messageOf, messageFits}
-use Rattle.table.specs.declared.pool.Place.{Place}
-use Rattle.table.specs.declared.running.Ran.{Ran}
-use Rattle.table.specs.declared.pool.Waiting.the-variants.{One}
-use Rattle.table.specs.declared.steps.Step.{Step}
-use Rattle.table.specs.declared.steps.Step.the-variants.{Add, Draw, Send, Deliver, Lose}
-use Rattle.table.specs.declared.stepping.Stepped.{Stepped}
+use Rattle.pool.specs.declared.places.Place.{Place}
+use Rattle.steps.specs.declared.running.Ran.{Ran}
+use Rattle.pool.specs.declared.places.Waiting.the-variants.{One}
+use Rattle.steps.specs.declared.asked.Step.{Step}
+use Rattle.steps.specs.declared.asked.Step.the-variants.{Add, Draw, Send, Deliver, Lose}
+use Rattle.table.specs.declared.stepped.Stepped.{Stepped}
 use Rattle.table.specs.declared.table.Table.{Table}
 use Rattle.table.specs.Fresh.{freshRefusals as freshTableRefusals, freshOf as freshTableOf}
-use Rattle.table.specs.Lent.{told, sendInRefusals, loseInRefusals}
-use Rattle.table.specs.Running.{ranOf}
+use Rattle.pool.specs.Lent.{told, sendInRefusals, loseInRefusals}
+use Rattle.steps.specs.Running.{ranOf}
 use Rattle.table.specs.Sound.{tableSound}
-use Rattle.table.specs.Steps.{answeredStep, stepRefusals, stepOf}
-use Rattle.table.specs.Table.{mostPlaces, stationAt, waitingAt}
+use Rattle.table.specs.Stepped.{answeredStep}
+use Rattle.steps.specs.Steps.{stepRefusals, stepOf}
+use Rattle.pool.specs.Pool.{mostPlaces}
+use Rattle.table.specs.Table.{stationAt, waitingAt}
 use Rattle.table.specs.Way.{sumRefusals, summed}
-use Rattle.table.proofs.Ran.{step-answers}
-use Rattle.table.proofs.Same.{deliver-same}
+use Rattle.steps.proofs.Ran.{step-answers}
+use Rattle.steps.proofs.Same.{deliver-same}
 use Rattle.script.specs.declared.starting.Put.{Put}
 use Rattle.script.specs.declared.starting.Run.{Run}
 use Rattle.script.specs.Filling.{fillRefusals}

@@ -7,12 +7,12 @@ use mathlib.Core.List.{List, [], _∷_, _++_, append-assoc}
 use borrow.Author.Tests.{le-ltb}
 use lib.ListN.{length}
 use Rattle.rules.specs.Answers.{badLine}
-use Rattle.table.specs.declared.steps.Asked.{Asked}
-use Rattle.table.specs.declared.steps.Asked.the-variants.{NoStep, OneStep}
+use Rattle.steps.specs.declared.asked.Asked.{Asked}
+use Rattle.steps.specs.declared.asked.Asked.the-variants.{NoStep, OneStep}
 use Rattle.table.specs.declared.table.Table.{Table}
 use Rattle.table.specs.Fresh.{freshOf}
-use Rattle.table.specs.Running.{askedStep}
-use Rattle.table.specs.Steps.{stepOf}
+use Rattle.steps.specs.Running.{askedStep}
+use Rattle.steps.specs.Steps.{stepOf}
 use Rattle.script.specs.Words.{upTo, past}
 use Rattle.script.specs.Lines.{lineOf}
 use Rattle.script.specs.Decimal.{says}

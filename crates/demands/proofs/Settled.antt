@@ -10,7 +10,7 @@ use denote.Triple.Clauses.{Ended}
 use Rattle.record.specs.Writing.{Writes, written, left}
 use Rattle.quynhabet.specs.Exports.{Given, Gives}
 use Rattle.table.specs.declared.table.Table.{Table}
-use Rattle.table.specs.Running.{ranOf, toldOf, Runs}
+use Rattle.steps.specs.Running.{ranOf, toldOf, Runs}
 use Rattle.measure.specs.Steps.{RunsFresh}
 use Rattle.script.specs.declared.starting.Run.{Run}
 use Rattle.script.specs.Filling.{filledBy, Fills, turnOf}
@@ -91,17 +91,17 @@ settled =
       quynhabet·qb-record-write = λ message out. record { promised = refl; settled = λ κ. giving _ };
       table·fresh-table = λ count. given refl;
       table·table-is-sound = λ t. given refl;
-      table·step = λ t step. given refl;
-      table·run = λ t codes told. record { promised = refl; settled = λ κ. running _ _ _ };
-      table·numbers-for = λ asked. given refl;
+      steps·step = λ t step. given refl;
+      steps·run = λ t codes told. record { promised = refl; settled = λ κ. running _ _ _ };
+      steps·numbers-for = λ asked. given refl;
       table·on-the-way = λ t. given refl;
       table·at-stations = λ t. given refl;
       measure·qm-run = λ count codes told. record { promised = refl; settled = λ κ. running-fresh _ _ _ };
       measure·qm-last-result = λ count codes. given refl;
-      table·send-in = λ pool m. record { promised = refl; settled = λ κ. both _ _ };
-      table·lose-in = λ pool p. record { promised = refl; settled = λ κ. both _ _ };
-      table·send-value = λ pool m. given refl;
-      table·lose-value = λ pool p. given refl;
+      pool·send-in = λ pool m. record { promised = refl; settled = λ κ. both _ _ };
+      pool·lose-in = λ pool p. record { promised = refl; settled = λ κ. both _ _ };
+      pool·send-value = λ pool m. given refl;
+      pool·lose-value = λ pool p. given refl;
       script·start = λ script. given refl;
       script·put-answer = λ answer out. record { promised = refl; settled = λ κ. putting _ _ };
       script·fill = λ script run out. record { promised = refl; settled = λ κ. filling _ _ _ };

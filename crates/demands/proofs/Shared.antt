@@ -13,14 +13,15 @@ use Rattle.station.specs.Steps.{showAnswer, messageFor, receiveOf}
 use Rattle.record.specs.Layout.{bytesOf}
 use Rattle.record.specs.AtStation.{receiveBytesOf}
 use Rattle.record.proofs.ReadBack.{read-back}
-use Rattle.table.specs.declared.pool.Waiting.the-variants.{One}
-use Rattle.table.specs.declared.steps.Step.the-variants.{Send, Deliver}
+use Rattle.pool.specs.declared.places.Waiting.the-variants.{One}
+use Rattle.steps.specs.declared.asked.Step.the-variants.{Send, Deliver}
 use Rattle.table.specs.declared.table.Table.{Table}
-use Rattle.table.specs.Table.{mostPlaces, stationAt, waitingAt, lowestEmpty}
+use Rattle.pool.specs.Pool.{mostPlaces, lowestEmpty}
+use Rattle.table.specs.Table.{stationAt, waitingAt}
 use Rattle.table.specs.Sound.{tableSound}
-use Rattle.table.specs.Steps.{stepOf}
+use Rattle.steps.specs.Steps.{stepOf}
 use Rattle.table.proofs.Tables.{table-parts, waits}
-use Rattle.table.proofs.Same.{SameAt, deliver-same, send-same}
+use Rattle.steps.proofs.Same.{SameAt, deliver-same, send-same}
 
 pub record-received : (s : Station) (m : Message) → messageSound m ≡ true → receiveBytesOf s (bytesOf m) ≡ receiveOf s m
 unfolding receiveBytesOf

@@ -6,10 +6,10 @@ use Rattle.rules.specs.Below.{allBelow}
 use Rattle.station.specs.Sound.{stationSound, messageSound}
 use Rattle.rules.specs.Taking.{takeOf}
 use Rattle.station.specs.Steps.{addOf, drawOf, showOf, receiveOf}
-use Rattle.table.specs.Table.{firstFrom}
+use Rattle.pool.specs.Pool.{firstFrom}
 use Rattle.table.specs.Sound.{tableSound}
 use Rattle.table.specs.Fresh.{seatsTo, freshOf}
-use Rattle.table.specs.Steps.{stepOf}
+use Rattle.steps.specs.Steps.{stepOf}
 use Rattle.script.specs.Words.{numeralOf}
 use Rattle.script.specs.Lines.{lineOf, stationsOf}
 use Rattle.script.specs.Decimal.{digitsBy}

@@ -5,14 +5,13 @@ use Rattle.rules.specs.Below.{allBelow}
 use Rattle.station.specs.Sound.{stationSound, messageSound}
 use Rattle.rules.specs.Stock.{addedTo, drawnFrom}
 use Rattle.rules.specs.Taking.{takeOf, takenOf}
-use Rattle.station.specs.Steps.{addOf, drawOf, showOf, receiveOf}
-use Rattle.table.specs.Table.{firstFrom}
+use Rattle.station.specs.Steps.{addOf, drawOf, showOf, receiveOf, freshOf as freshStation}
+use Rattle.pool.specs.Pool.{firstFrom}
 use Rattle.table.specs.Sound.{tableSound}
 use Rattle.table.specs.Fresh.{seatsTo, freshOf}
-use Rattle.table.specs.Running.{askedIn, toldBy, leftBy, ranOf, toldOf}
-use Rattle.table.specs.Steps.{stepOf}
+use Rattle.steps.specs.Running.{askedIn, toldBy, leftBy, ranOf, toldOf}
+use Rattle.steps.specs.Steps.{stepOf}
 use Rattle.measure.specs.Steps.{lastResult}
-use Rattle.station.specs.Steps.{freshOf as freshStation}
 use Rattle.record.specs.Numbers.{big, numberAt}
 use Rattle.record.specs.Layout.{bytesOf}
 use Rattle.record.specs.Reading.{fieldAt, isRecord, readAt}

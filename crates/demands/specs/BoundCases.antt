@@ -9,13 +9,13 @@ use Rattle.rules.specs.declared.message.Message.{Message}
 use Rattle.station.specs.Side.{putSide}
 use Rattle.station.specs.Sound.{stationSound, messageSound}
 use Rattle.station.specs.Steps.{blank, putStock, addOf, drawOf, receiveOf}
-use Rattle.table.specs.declared.pool.Waiting.the-variants.{One}
-use Rattle.table.specs.declared.steps.Step.the-variants.{Deliver, Lose}
+use Rattle.pool.specs.declared.places.Waiting.the-variants.{One}
+use Rattle.steps.specs.declared.asked.Step.the-variants.{Deliver, Lose}
 use Rattle.table.specs.declared.table.Table.{Table}
 use Rattle.table.specs.Table.{putStation, putPlace}
 use Rattle.table.specs.Sound.{tableSound}
 use Rattle.table.specs.Fresh.{freshOf}
-use Rattle.table.specs.Steps.{stepOf}
+use Rattle.steps.specs.Steps.{stepOf}
 use Rattle.table.specs.Way.{onTheWay}
 use Rattle.demands.specs.Samples.{station1, from0, slot, token, numbersOf}
 use Rattle.demands.specs.Cases.{Case}

@@ -10,7 +10,7 @@
 -- Not listed: `rules::SourceClock::is_above`, `rules::DestinationClock::is_above`. They compare.
 -- Not listed: `station::blank_station`, `rules::no_message`. They make what they are told to.
 -- Not listed: `rules::no_report`. It makes what it is told to.
--- Not listed: `rules::rules_of`, `table::numbers_for`. They tell what they are given in numbers.
+-- Not listed: `rules::rules_of`, `steps::numbers_for`. They tell what they are given in numbers.
 -- Not listed: `measure::qm_run`, `measure::qm_last_result`. They have no answer: runs to be timed.
 use Prim.Native.Nat.{ℕ}
 use mathlib.Core.Path.{_≡_}
@@ -39,19 +39,19 @@ use Rattle.record.specs.Writing.{WritesGiven}
 use Rattle.record.specs.AtStation.{WritesFor, receiveBytesOf}
 use Rattle.quynhabet.specs.declared.told.Told.{Told}
 use Rattle.quynhabet.specs.Exports.{plainTold, Makes, checkOf, Adds, Draws, Shows, Receives, Reads, WritesNumbers}
-use Rattle.table.specs.declared.lent.Pooled.{Pooled}
-use Rattle.table.specs.declared.lent.Told.{Told as PoolTold}
-use Rattle.table.specs.declared.running.Ran.{Ran}
-use Rattle.table.specs.declared.steps.Step.{Step}
-use Rattle.table.specs.declared.pool.Place.{Place}
-use Rattle.table.specs.declared.stepping.Stepped.{Stepped}
+use Rattle.pool.specs.declared.lent.Pooled.{Pooled}
+use Rattle.pool.specs.declared.lent.Told.{Told as PoolTold}
+use Rattle.steps.specs.declared.running.Ran.{Ran}
+use Rattle.steps.specs.declared.asked.Step.{Step}
+use Rattle.pool.specs.declared.places.Place.{Place}
+use Rattle.table.specs.declared.stepped.Stepped.{Stepped}
 use Rattle.table.specs.declared.table.Table.{Table}
 use Rattle.table.specs.declared.way.Summed.{Summed}
-use Rattle.table.specs.Table.{mostPlaces}
+use Rattle.pool.specs.Pool.{mostPlaces}
 use Rattle.table.specs.Fresh.{freshOf as freshTableOf}
-use Rattle.table.specs.Lent.{cleared, SendsIn, LosesIn, sentValue, lostValue}
-use Rattle.table.specs.Running.{Runs}
-use Rattle.table.specs.Steps.{stepOf}
+use Rattle.pool.specs.Lent.{cleared, SendsIn, LosesIn, sentValue, lostValue}
+use Rattle.steps.specs.Running.{Runs}
+use Rattle.steps.specs.Steps.{stepOf}
 use Rattle.table.specs.Way.{wayAsked, stationsAsked}
 use Rattle.script.specs.declared.filling.Filled.{Filled}
 use Rattle.script.specs.declared.starting.Put.{Put}
@@ -188,23 +188,23 @@ pub record Demand1 : Type 0 where
   -- 1: a refused making is no table
   pub table·fresh-table : (count : ℕ) → RefusedAsTable noTable (freshTableOf count)
   -- 1, then those of an add, a draw, a send, a delivery or a loss: the table is as it was
-  pub table·step : (t : Table) (step : Step) → RefusedAsTable t (stepOf t step)
+  pub steps·step : (t : Table) (step : Step) → RefusedAsTable t (stepOf t step)
   -- 1: the table is as it was, and nothing is told
-  pub table·run : (t : Table) (codes told : List ℕ) (r : Ran) (told′ : List ℕ) → Runs t codes told r told′ → RefusedRan t told r told′
+  pub steps·run : (t : Table) (codes told : List ℕ) (r : Ran) (told′ : List ℕ) → Runs t codes told r told′ → RefusedRan t told r told′
   -- 1: the sum is 0
   pub table·on-the-way : (t : Table) → RefusedSum (wayAsked t)
   -- 1: the sum is 0
   pub table·at-stations : (t : Table) → RefusedSum (stationsAsked t)
   -- 1, 6: every place of the pool is as it was
-  pub table·send-in : (pool : List Place) (m : Message) (r : PoolTold) (pool′ : List Place)
+  pub pool·send-in : (pool : List Place) (m : Message) (r : PoolTold) (pool′ : List Place)
       → SendsIn pool m r pool′ → RefusedPool pool r pool′
   -- 1, 7, 8: every place of the pool is as it was
-  pub table·lose-in : (pool : List Place) (p : ℕ) (r : PoolTold) (pool′ : List Place)
+  pub pool·lose-in : (pool : List Place) (p : ℕ) (r : PoolTold) (pool′ : List Place)
       → LosesIn pool p r pool′ → RefusedPool pool r pool′
   -- 6: the pool by value, as it was
-  pub table·send-value : (pool : List Place) (m : Message) → RefusedPooled pool (sentValue pool m)
+  pub pool·send-value : (pool : List Place) (m : Message) → RefusedPooled pool (sentValue pool m)
   -- 7, 8: the pool by value, as it was
-  pub table·lose-value : (pool : List Place) (p : ℕ) → RefusedPooled pool (lostValue pool p)
+  pub pool·lose-value : (pool : List Place) (p : ℕ) → RefusedPooled pool (lostValue pool p)
   -- 13, 12, 1: a refused script hands back a run that is finished, with no table and every number 0
   pub script·start : (script : List ℕ) → RefusedStart (startedOf script)
   -- 14: the buffer is as it was

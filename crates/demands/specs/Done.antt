@@ -12,12 +12,12 @@ use Rattle.record.specs.Layout.{bytesOf}
 use Rattle.record.specs.Reading.{readOf}
 use Rattle.record.specs.Writing.{written, writeAnswer}
 use Rattle.record.specs.AtStation.{writeForAnswer, receiveBytesOf}
-use Rattle.table.specs.declared.steps.Step.the-variants.{Add, Draw, Send, Deliver, Lose}
+use Rattle.steps.specs.declared.asked.Step.the-variants.{Add, Draw, Send, Deliver, Lose}
 use Rattle.table.specs.declared.table.Table.{Table}
 use Rattle.table.specs.Fresh.{freshOf}
-use Rattle.table.specs.Lent.{sendInTold, loseInTold}
-use Rattle.table.specs.Running.{ranOf}
-use Rattle.table.specs.Steps.{stepOf}
+use Rattle.pool.specs.Lent.{sendInTold, loseInTold}
+use Rattle.steps.specs.Running.{ranOf}
+use Rattle.steps.specs.Steps.{stepOf}
 use Rattle.table.specs.Way.{wayAsked, stationsAsked}
 use Rattle.script.specs.Filling.{turnOf}
 use Rattle.script.specs.Starting.{putOf, startedOf}

@@ -14,10 +14,10 @@ use Rattle.station.specs.Steps.{blank, receiveOf}
 use Rattle.record.specs.Layout.{bytesOf}
 use Rattle.record.specs.Reading.{readOf}
 use Rattle.record.specs.AtStation.{receiveBytesOf}
-use Rattle.table.specs.declared.steps.Step.{Step}
-use Rattle.table.specs.declared.steps.Step.the-variants.{Send, Lose}
+use Rattle.steps.specs.declared.asked.Step.{Step}
+use Rattle.steps.specs.declared.asked.Step.the-variants.{Send, Lose}
 use Rattle.table.specs.Fresh.{freshOf}
-use Rattle.table.specs.Steps.{stepOf}
+use Rattle.steps.specs.Steps.{stepOf}
 use Rattle.runs.specs.Runs.{Line, logOf}
 use Rattle.demands.specs.Samples.{station1, from0, slot, token, slotNumbers, tokenNumbers, numbersOf}
 use Rattle.demands.specs.Cases.{Case}

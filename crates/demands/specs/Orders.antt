@@ -16,14 +16,14 @@ use Rattle.record.specs.Writing.{writeRefusals, WritesGiven}
 use Rattle.record.specs.AtStation.{writeForRefusals, WritesFor, receiveBytesRefusals, receiveBytesOf}
 use Rattle.quynhabet.specs.declared.told.Told.{Told}
 use Rattle.quynhabet.specs.Exports.{Makes, checkRefusals, checkOf, Adds, Draws, Shows, Receives, Reads, WritesNumbers}
-use Rattle.table.specs.declared.pool.Place.{Place}
-use Rattle.table.specs.declared.running.Ran.{Ran}
-use Rattle.table.specs.declared.steps.Step.the-variants.{Add, Draw, Send, Deliver, Lose}
+use Rattle.pool.specs.declared.places.Place.{Place}
+use Rattle.steps.specs.declared.running.Ran.{Ran}
+use Rattle.steps.specs.declared.asked.Step.the-variants.{Add, Draw, Send, Deliver, Lose}
 use Rattle.table.specs.declared.table.Table.{Table}
 use Rattle.table.specs.Fresh.{freshRefusals as freshTableRefusals, freshOf as freshTableOf}
-use Rattle.table.specs.Lent.{sendInRefusals, sendInTold, loseInRefusals, loseInTold}
-use Rattle.table.specs.Running.{Runs}
-use Rattle.table.specs.Steps.{stepRefusals, stepOf}
+use Rattle.pool.specs.Lent.{sendInRefusals, sendInTold, loseInRefusals, loseInTold}
+use Rattle.steps.specs.Running.{Runs}
+use Rattle.steps.specs.Steps.{stepRefusals, stepOf}
 use Rattle.table.specs.Way.{sumRefusals, wayAsked, stationsAsked}
 use Rattle.script.specs.declared.filling.Filled.{Filled}
 use Rattle.script.specs.declared.starting.Put.{Put}

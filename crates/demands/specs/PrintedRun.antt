@@ -7,12 +7,12 @@ use mathlib.Core.Path.{_≡_}
 use mathlib.Core.List.{List, [], _∷_, _++_}
 use lib.ListN.{length}
 use Rattle.rules.specs.Answers.{done, badLine}
-use Rattle.table.specs.declared.steps.Asked.{Asked}
-use Rattle.table.specs.declared.steps.Asked.the-variants.{NoStep, OneStep}
-use Rattle.table.specs.declared.steps.Step.{Step}
+use Rattle.steps.specs.declared.asked.Asked.{Asked}
+use Rattle.steps.specs.declared.asked.Asked.the-variants.{NoStep, OneStep}
+use Rattle.steps.specs.declared.asked.Step.{Step}
 use Rattle.table.specs.declared.table.Table.{Table}
 use Rattle.table.specs.Fresh.{freshOf}
-use Rattle.table.specs.Steps.{stepOf}
+use Rattle.steps.specs.Steps.{stepOf}
 use Rattle.table.specs.Way.{onTheWay, atStations}
 use Rattle.script.specs.declared.words.Numeral.the-variants.{Reads}
 use Rattle.script.specs.Words.{upTo, past}

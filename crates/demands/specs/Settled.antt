@@ -28,15 +28,15 @@ use Rattle.record.specs.Reading.{readOf}
 use Rattle.record.specs.Writing.{WritesGiven}
 use Rattle.record.specs.AtStation.{WritesFor, receiveBytesOf}
 use Rattle.quynhabet.specs.Exports.{Makes, checkOf, Adds, Draws, Shows, Receives, Reads, WritesNumbers}
-use Rattle.table.specs.declared.steps.Asked.{Asked}
-use Rattle.table.specs.declared.steps.Step.{Step}
-use Rattle.table.specs.declared.pool.Place.{Place}
+use Rattle.steps.specs.declared.asked.Asked.{Asked}
+use Rattle.steps.specs.declared.asked.Step.{Step}
+use Rattle.pool.specs.declared.places.Place.{Place}
 use Rattle.table.specs.declared.table.Table.{Table}
 use Rattle.table.specs.Fresh.{freshOf as freshTableOf}
-use Rattle.table.specs.Lent.{SendsIn, LosesIn, sentValue, lostValue}
-use Rattle.table.specs.Running.{Runs, numbersFor}
+use Rattle.pool.specs.Lent.{SendsIn, LosesIn, sentValue, lostValue}
+use Rattle.steps.specs.Running.{Runs, numbersFor}
 use Rattle.table.specs.Sound.{tableSound}
-use Rattle.table.specs.Steps.{stepOf}
+use Rattle.steps.specs.Steps.{stepOf}
 use Rattle.table.specs.Way.{wayAsked, stationsAsked}
 use Rattle.measure.specs.Steps.{lastResultOf, RunsFresh}
 use Rattle.script.specs.declared.starting.Run.{Run}
@@ -153,14 +153,14 @@ pub record Settled : Type 2 where
   pub table·table-is-sound : (t : Table)
       → Settles Rattle.table.proofs.sound.table_is_sound.ended (λ M 𝓤. Rattle.table.proofs.sound.table_is_sound.clauses 𝓤)
       (λ κ. (t, tt)) (λ κ r. r ≡ tableSound t)
-  pub table·step : (t : Table) (step : Step)
-      → Settles Rattle.table.proofs.stepping.step.ended (λ M 𝓤. Rattle.table.proofs.stepping.step.clauses 𝓤)
+  pub steps·step : (t : Table) (step : Step)
+      → Settles Rattle.steps.proofs.stepping.step.ended (λ M 𝓤. Rattle.steps.proofs.stepping.step.clauses 𝓤)
       (λ κ. (t, (step, tt))) (λ κ r. r ≡ stepOf t step)
-  pub table·run : (t : Table) (codes told : Lent (List ℕ))
-      → SettlesBoth Rattle.table.proofs.running.run.ended (λ M 𝓤. Rattle.table.proofs.running.run.clauses 𝓤)
+  pub steps·run : (t : Table) (codes told : Lent (List ℕ))
+      → SettlesBoth Rattle.steps.proofs.running.run.ended (λ M 𝓤. Rattle.steps.proofs.running.run.clauses 𝓤)
       (λ κ. (t, (codes, (told, tt)))) (λ κ e. now (e .1 .1 .0)) (λ κ. Runs t (now codes) (now told))
-  pub table·numbers-for : (asked : Asked)
-      → Settles Rattle.table.proofs.steps.numbers_for.ended (λ M 𝓤. Rattle.table.proofs.steps.numbers_for.clauses 𝓤)
+  pub steps·numbers-for : (asked : Asked)
+      → Settles Rattle.steps.proofs.asked.numbers_for.ended (λ M 𝓤. Rattle.steps.proofs.asked.numbers_for.clauses 𝓤)
       (λ κ. (asked, tt)) (λ κ r. r ≡ numbersFor asked)
   pub table·on-the-way : (t : Table)
       → Settles Rattle.table.proofs.way.on_the_way.ended (λ M 𝓤. Rattle.table.proofs.way.on_the_way.clauses 𝓤)
@@ -176,17 +176,17 @@ pub record Settled : Type 2 where
       → Settles Rattle.measure.proofs.qm_last_result.ended (λ M 𝓤. Rattle.measure.proofs.qm_last_result.clauses 𝓤)
       (λ κ. (count, (codes, tt))) (λ κ r. r ≡ lastResultOf count (now codes))
   -- a pool, lent and by value
-  pub table·send-in : (pool : Lent (List Place)) (m : Message)
-      → SettlesBoth Rattle.table.proofs.lent.send_in.ended (λ M 𝓤. Rattle.table.proofs.lent.send_in.clauses 𝓤)
+  pub pool·send-in : (pool : Lent (List Place)) (m : Message)
+      → SettlesBoth Rattle.pool.proofs.lent.send_in.ended (λ M 𝓤. Rattle.pool.proofs.lent.send_in.clauses 𝓤)
       (λ κ. (pool, (m, tt))) (λ κ e. now (e .0)) (λ κ. SendsIn (now pool) m)
-  pub table·lose-in : (pool : Lent (List Place)) (p : ℕ)
-      → SettlesBoth Rattle.table.proofs.lent.lose_in.ended (λ M 𝓤. Rattle.table.proofs.lent.lose_in.clauses 𝓤)
+  pub pool·lose-in : (pool : Lent (List Place)) (p : ℕ)
+      → SettlesBoth Rattle.pool.proofs.lent.lose_in.ended (λ M 𝓤. Rattle.pool.proofs.lent.lose_in.clauses 𝓤)
       (λ κ. (pool, (p, tt))) (λ κ e. now (e .0)) (λ κ. LosesIn (now pool) p)
-  pub table·send-value : (pool : List Place) (m : Message)
-      → Settles Rattle.table.proofs.lent.send_value.ended (λ M 𝓤. Rattle.table.proofs.lent.send_value.clauses 𝓤)
+  pub pool·send-value : (pool : List Place) (m : Message)
+      → Settles Rattle.pool.proofs.lent.send_value.ended (λ M 𝓤. Rattle.pool.proofs.lent.send_value.clauses 𝓤)
       (λ κ. (pool, (m, tt))) (λ κ r. r ≡ sentValue pool m)
-  pub table·lose-value : (pool : List Place) (p : ℕ)
-      → Settles Rattle.table.proofs.lent.lose_value.ended (λ M 𝓤. Rattle.table.proofs.lent.lose_value.clauses 𝓤)
+  pub pool·lose-value : (pool : List Place) (p : ℕ)
+      → Settles Rattle.pool.proofs.lent.lose_value.ended (λ M 𝓤. Rattle.pool.proofs.lent.lose_value.clauses 𝓤)
       (λ κ. (pool, (p, tt))) (λ κ r. r ≡ lostValue pool p)
   -- a script
   pub script·start : (script : Lent (List ℕ))

@@ -2,12 +2,12 @@
 use Prim.Native.Nat.{ℕ}
 use mathlib.Core.List.{List, [], _∷_, _++_}
 use lib.ListN.{replicate}
-use Rattle.table.specs.declared.steps.Asked.the-variants.{NoStep, OneStep}
-use Rattle.table.specs.declared.steps.Step.the-variants.{Deliver}
+use Rattle.steps.specs.declared.asked.Asked.the-variants.{NoStep, OneStep}
+use Rattle.steps.specs.declared.asked.Step.the-variants.{Deliver}
 use Rattle.table.specs.declared.table.Table.{Table}
 use Rattle.table.specs.Table.{stationAt}
 use Rattle.table.specs.Fresh.{freshOf}
-use Rattle.table.specs.Running.{numbersFor, ranOf, toldOf}
+use Rattle.steps.specs.Running.{numbersFor, ranOf, toldOf}
 use Rattle.table.specs.Sound.{tableSound}
 use Rattle.measure.specs.Steps.{lastResultOf}
 use Rattle.demands.specs.Wrong.{Wrong, truth}

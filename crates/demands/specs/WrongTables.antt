@@ -6,16 +6,17 @@ use Rattle.rules.specs.declared.held.HeldSlot.the-variants.{NoSlot}
 use Rattle.rules.specs.declared.held.HeldToken.the-variants.{NoToken}
 use Rattle.rules.specs.declared.message.Message.{Message}
 use Rattle.table.specs.declared.table.Table.{Table}
-use Rattle.table.specs.declared.steps.Step.the-variants.{Add, Send, Deliver, Lose}
-use Rattle.table.specs.declared.stepping.Stepped.{Stepped}
-use Rattle.table.specs.declared.pool.Waiting.{Waiting}
-use Rattle.table.specs.declared.pool.Waiting.the-variants.{Empty, One}
-use Rattle.table.specs.declared.pool.Place.{Place}
-use Rattle.table.specs.declared.lent.Told.{Told}
-use Rattle.table.specs.Table.{stationAt, waitingAt, placeIn, putStation}
-use Rattle.table.specs.Lent.{sendInTold, sendInPool, loseInTold, loseInPool}
+use Rattle.steps.specs.declared.asked.Step.the-variants.{Add, Send, Deliver, Lose}
+use Rattle.table.specs.declared.stepped.Stepped.{Stepped}
+use Rattle.pool.specs.declared.places.Waiting.{Waiting}
+use Rattle.pool.specs.declared.places.Waiting.the-variants.{Empty, One}
+use Rattle.pool.specs.declared.places.Place.{Place}
+use Rattle.pool.specs.declared.lent.Told.{Told}
+use Rattle.table.specs.Table.{stationAt, waitingAt, putStation}
+use Rattle.pool.specs.Pool.{placeIn}
+use Rattle.pool.specs.Lent.{sendInTold, sendInPool, loseInTold, loseInPool}
 use Rattle.table.specs.Fresh.{freshOf}
-use Rattle.table.specs.Steps.{stepOf}
+use Rattle.steps.specs.Steps.{stepOf}
 use Rattle.table.specs.Way.{wayAsked, stationsAsked}
 use Rattle.demands.specs.Samples.{station1, from0, token}
 use Rattle.demands.specs.Wrong.{Wrong}

@@ -5,9 +5,9 @@ use mathlib.Core.List.{List, [], _∷_}
 use native.Mathlib.Omega.{arith}
 use lib.ListN.{length, getD, drop, length-drop}
 use lib.Seq.{drop-cons}
-use Rattle.table.specs.Steps.{stepOf}
-use Rattle.table.specs.declared.steps.Step.{Step}
-use Rattle.table.specs.declared.stepping.Stepped.{Stepped}
+use Rattle.steps.specs.Steps.{stepOf}
+use Rattle.steps.specs.declared.asked.Step.{Step}
+use Rattle.table.specs.declared.stepped.Stepped.{Stepped}
 use Rattle.table.specs.declared.table.Table.{Table}
 use Rattle.measure.specs.Steps.{stepBy, lastResult}
 

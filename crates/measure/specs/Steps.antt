@@ -5,10 +5,10 @@ use mathlib.Core.List.{List, [], _∷_}
 use lib.Dec.{eqb}
 use mathlib.Core.Path.{_≡_}
 use Rattle.table.specs.Fresh.{freshOf}
-use Rattle.table.specs.Running.{ranOf, toldOf}
-use Rattle.table.specs.Steps.{stepOf}
-use Rattle.table.specs.declared.steps.Step.{Step}
-use Rattle.table.specs.declared.steps.Step.the-variants.{Add, Draw, Send, Deliver, Lose}
+use Rattle.steps.specs.Running.{ranOf, toldOf}
+use Rattle.steps.specs.Steps.{stepOf}
+use Rattle.steps.specs.declared.asked.Step.{Step}
+use Rattle.steps.specs.declared.asked.Step.the-variants.{Add, Draw, Send, Deliver, Lose}
 use Rattle.table.specs.declared.table.Table.{Table}
 
 -- 0 add, 1 draw, 2 send, 3 deliver, any other lose

@@ -1,7 +1,7 @@
 // Steps from a fresh table on, for benchmarks from Rust: the table stays on this side.
 ghost use mathlib.Core.Path.{_≡_};
 ghost use Rattle.measure.specs.Steps.{stepBy, lastResultOf, RunsFresh};
-use table::steps::Step;
+use steps::asked::Step;
 
 // A step of numbers.
 fn step_by(kind: u64, a: u64, b: u64) -> Step
@@ -29,7 +29,7 @@ pub extern "C" fn qm_run(count: u64, codes: &[u64], told: &mut [u64]) -> u64
 {
     let made = table::fresh_table(count);
     let t = made.table;
-    let ran = table::run(t, codes, told);
+    let ran = steps::run(t, codes, told);
     ran.result
 }
 
@@ -43,7 +43,7 @@ pub extern "C" fn qm_last_result(count: u64, codes: &[u64]) -> u64
     let mut last: u64 = 0;
     let mut at: usize = 0;
     while 3 <= codes.len() - at {
-        let done = table::step(t, step_by(codes[at], codes[at + 1], codes[at + 2]));
+        let done = steps::step(t, step_by(codes[at], codes[at + 1], codes[at + 2]));
         t = done.table;
         last = done.result;
         at = at + 3;

@@ -9,11 +9,12 @@ use Rattle.rules.specs.Taking.{takeOf}
 use Rattle.station.specs.Steps.{addOf, showOf, receiveOf}
 use Rattle.table.specs.Fresh.{seatsTo, freshOf}
 use Rattle.table.specs.Sound.{tableSound}
-use Rattle.table.specs.Steps.{stepOf}
-use Rattle.table.specs.Table.{stationAt, waitingAt, firstFrom}
-use Rattle.table.specs.declared.pool.Waiting.the-variants.{One}
-use Rattle.table.specs.declared.steps.Step.the-variants.{Deliver}
-use Rattle.table.specs.declared.stepping.Stepped.{Stepped}
+use Rattle.steps.specs.Steps.{stepOf}
+use Rattle.table.specs.Table.{stationAt, waitingAt}
+use Rattle.pool.specs.Pool.{firstFrom}
+use Rattle.pool.specs.declared.places.Waiting.the-variants.{One}
+use Rattle.steps.specs.declared.asked.Step.the-variants.{Deliver}
+use Rattle.table.specs.declared.stepped.Stepped.{Stepped}
 use Rattle.table.specs.declared.table.Table.{Table}
 use Rattle.runs.specs.Runs.{tableAfter}
 use Rattle.runs.specs.Again.{hello, atFirst, atAgain, opens, nod}

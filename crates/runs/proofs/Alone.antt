@@ -10,7 +10,7 @@ use lib.Dec.{eqb}
 use lib.ListN.{getD}
 use borrow.Author.Tests.{eqb-true}
 use Rattle.rules.proofs.Below.{all-at}
-use Rattle.table.specs.declared.steps.Step.{Step}
+use Rattle.steps.specs.declared.asked.Step.{Step}
 use Rattle.table.specs.declared.table.Table.{Table}
 use Rattle.runs.specs.Runs.{Build}
 use Rattle.runs.specs.Clauses.{Clause, passes, departed-before, one-departure, one-arrival, way, sound, answers, stale, says, FailsAlone}

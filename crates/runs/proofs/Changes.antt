@@ -21,9 +21,9 @@ use Rattle.rules.specs.declared.side.Side.{Side}
 use Rattle.station.specs.declared.station.Station.{Station}
 use Rattle.rules.proofs.Stores.{stored}
 use Rattle.table.specs.Table.{stationAt, waitingAt, putStation, putPlace}
-use Rattle.table.specs.declared.pool.Place.{Place}
-use Rattle.table.specs.declared.pool.Waiting.{Waiting}
-use Rattle.table.specs.declared.pool.Waiting.the-variants.{One}
+use Rattle.pool.specs.declared.places.Place.{Place}
+use Rattle.pool.specs.declared.places.Waiting.{Waiting}
+use Rattle.pool.specs.declared.places.Waiting.the-variants.{One}
 use Rattle.table.specs.declared.table.Table.{Table}
 use Rattle.table.proofs.Tables.{table-parts}
 use Rattle.runs.specs.Demand3.{amount}

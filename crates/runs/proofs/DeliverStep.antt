@@ -14,12 +14,13 @@ use Rattle.rules.specs.Rules.{fill}
 use Rattle.rules.proofs.Refusing.{passed}
 use Rattle.station.specs.Side.{sideFor}
 use Rattle.station.proofs.Parts.{message-parts}
-use Rattle.table.specs.Table.{mostPlaces, isEmpty, stationAt, waitingAt}
+use Rattle.pool.specs.Pool.{mostPlaces, isEmpty}
+use Rattle.table.specs.Table.{stationAt, waitingAt}
 use Rattle.table.specs.Sound.{tableSound}
-use Rattle.table.specs.Steps.{delivered, overfills, stepRefusals, stepDone, stepOf}
-use Rattle.table.specs.declared.pool.Waiting.{Waiting}
-use Rattle.table.specs.declared.pool.Waiting.the-variants.{Empty, One}
-use Rattle.table.specs.declared.steps.Step.the-variants.{Deliver}
+use Rattle.steps.specs.Steps.{delivered, overfills, stepRefusals, stepDone, stepOf}
+use Rattle.pool.specs.declared.places.Waiting.{Waiting}
+use Rattle.pool.specs.declared.places.Waiting.the-variants.{Empty, One}
+use Rattle.steps.specs.declared.asked.Step.the-variants.{Deliver}
 use Rattle.table.specs.declared.table.Table.{Table}
 use Rattle.table.proofs.Tables.{table-parts, waits}
 use Rattle.runs.proofs.Reached.{Reached}

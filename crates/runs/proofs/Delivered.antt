@@ -21,7 +21,7 @@ use Rattle.rules.specs.declared.held.HeldToken.{HeldToken}
 use Rattle.rules.specs.declared.held.HeldToken.the-variants.{NoToken, OneToken}
 use Rattle.rules.specs.declared.message.Message.{Message}
 use Rattle.rules.specs.declared.side.Side.{Side}
-use Rattle.table.specs.declared.pool.Waiting.the-variants.{One}
+use Rattle.pool.specs.declared.places.Waiting.the-variants.{One}
 use Rattle.runs.specs.Runs.{arrivalBy, departureBy, entriesBy}
 use Rattle.runs.specs.Demand3.{amount}
 use Rattle.runs.proofs.Seen.{slotSeen, tokenSeen, endOf, letterOf, inward, outward, arrivesBy, departsBy}

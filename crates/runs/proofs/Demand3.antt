@@ -19,12 +19,12 @@ use Rattle.rules.proofs.Below.{needed}
 use Rattle.rules.specs.declared.held.HeldToken.the-variants.{OneToken}
 use Rattle.rules.specs.declared.held.Token.{Token}
 use Rattle.table.specs.Fresh.{freshOf}
-use Rattle.table.specs.Steps.{stepOf}
+use Rattle.steps.specs.Steps.{stepOf}
 use Rattle.table.specs.Table.{stationAt}
-use Rattle.table.specs.declared.steps.Step.{Step}
-use Rattle.table.specs.declared.steps.Step.the-variants.{Add, Draw, Send, Deliver, Lose}
+use Rattle.steps.specs.declared.asked.Step.{Step}
+use Rattle.steps.specs.declared.asked.Step.the-variants.{Add, Draw, Send, Deliver, Lose}
 use Rattle.table.specs.declared.table.Table.{Table}
-use Rattle.table.proofs.Kept.{step-keeps}
+use Rattle.steps.proofs.Kept.{step-keeps}
 use Rattle.runs.specs.Demand3.{Demand3, waitsFor}
 use Rattle.runs.specs.Runs.{Line, lineOf, logOf, tableAfter, addedBy, drawnBy, added, drawn, entriesBy, historyOf, amounting}
 use Rattle.runs.proofs.FreshReached.{fresh-reached}

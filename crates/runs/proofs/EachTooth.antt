@@ -13,15 +13,14 @@ use Rattle.rules.specs.Below.{allBelow}
 use Rattle.station.specs.Sound.{stationSound, messageSound}
 use Rattle.rules.specs.Taking.{takeOf}
 use Rattle.station.specs.Steps.{addOf, drawOf, showOf, receiveOf}
-use Rattle.table.specs.Table.{firstFrom}
+use Rattle.pool.specs.Pool.{firstFrom}
 use Rattle.table.specs.Sound.{tableSound}
 use Rattle.table.specs.Fresh.{seatsTo, freshOf}
-use Rattle.table.specs.declared.steps.Step.{Step}
+use Rattle.steps.specs.declared.asked.Step.{Step}
 use Rattle.runs.specs.Runs.{Build, logOf, tableAfter, added, drawn, historyOf, amounting}
 use Rattle.runs.specs.Builds.{builtWith}
 use Rattle.runs.specs.Broken.{inventedDraw, overdrawn, slotAgain, clockStands, tokenOfNothing}
-use Rattle.runs.specs.BrokenAlone.{toldLate, landsFirst, toldAgain, slotStays, nothingTwice, toldNever, tokenMade, neverSound, oneAdd}
-use Rattle.runs.specs.BrokenAlone.{slotGone, slotDropped, comesAgain}
+use Rattle.runs.specs.BrokenAlone.{toldLate, landsFirst, toldAgain, slotStays, nothingTwice, toldNever, tokenMade, neverSound, oneAdd, slotGone, slotDropped, comesAgain}
 use Rattle.runs.specs.Clauses.{Clause, passes, departed-before, one-departure, one-arrival, way, sound, answers, stale, FailsAlone}
 use Rattle.runs.specs.Tested.{anyBelow, answeredTest, staleTest}
 use Rattle.runs.specs.Worked.{five}

@@ -21,11 +21,12 @@ use Rattle.rules.specs.declared.message.Message.{Message}
 use Rattle.station.specs.declared.station.Station.{Station}
 use Rattle.rules.proofs.Stores.{stored}
 use Rattle.table.specs.Fresh.{seatsTo, blankTable, freshOf}
-use Rattle.table.specs.Table.{mostPlaces, stationAt, waitingAt}
+use Rattle.pool.specs.Pool.{mostPlaces}
+use Rattle.table.specs.Table.{stationAt, waitingAt}
 use Rattle.table.specs.Way.{between, onTheWay}
 use Rattle.table.specs.Sound.{tableSound}
-use Rattle.table.specs.declared.pool.Place.{Place}
-use Rattle.table.specs.declared.pool.Waiting.the-variants.{Empty, One}
+use Rattle.pool.specs.declared.places.Place.{Place}
+use Rattle.pool.specs.declared.places.Waiting.the-variants.{Empty, One}
 use Rattle.table.proofs.FreshSound.{length-seats, seat-at, fresh-table-sound}
 use Rattle.table.proofs.Tables.{table-parts}
 use Rattle.runs.proofs.Full.{FullStation}

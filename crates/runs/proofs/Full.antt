@@ -9,8 +9,9 @@ use Rattle.station.specs.Steps.{putStock}
 use Rattle.rules.specs.declared.side.Side.{Side}
 use Rattle.station.specs.declared.station.Station.{Station}
 use Rattle.rules.proofs.Stores.{stored}
-use Rattle.table.specs.Table.{mostPlaces, stationAt, putStation, putPlace}
-use Rattle.table.specs.declared.pool.Waiting.{Waiting}
+use Rattle.pool.specs.Pool.{mostPlaces}
+use Rattle.table.specs.Table.{stationAt, putStation, putPlace}
+use Rattle.pool.specs.declared.places.Waiting.{Waiting}
 use Rattle.table.specs.declared.table.Table.{Table}
 
 pub record FullStation (s : Station) : Type 0 where

@@ -11,12 +11,13 @@ use Rattle.handshake.specs.Web.{Present}
 use Rattle.rules.specs.declared.message.Message.{Message}
 use Rattle.rules.specs.Refusals.{answerOf}
 use Rattle.station.specs.Steps.{messageFor}
-use Rattle.table.specs.Table.{mostPlaces, isEmpty, stationAt, waitingAt, lowestEmpty}
-use Rattle.table.specs.Steps.{stepRefusals, stepDone, stepOf}
-use Rattle.table.specs.declared.pool.Waiting.the-variants.{Empty, One}
-use Rattle.table.specs.declared.steps.Step.the-variants.{Send, Lose}
+use Rattle.pool.specs.Pool.{mostPlaces, isEmpty, lowestEmpty}
+use Rattle.table.specs.Table.{stationAt, waitingAt}
+use Rattle.steps.specs.Steps.{stepRefusals, stepDone, stepOf}
+use Rattle.pool.specs.declared.places.Waiting.the-variants.{Empty, One}
+use Rattle.steps.specs.declared.asked.Step.the-variants.{Send, Lose}
 use Rattle.table.specs.declared.table.Table.{Table}
-use Rattle.table.proofs.Kept.{sends}
+use Rattle.steps.proofs.Kept.{sends}
 use Rattle.table.proofs.Puts.{seat-of}
 use Rattle.table.proofs.Tables.{table-parts}
 use Rattle.runs.proofs.Seen.{webOf, letterOf}

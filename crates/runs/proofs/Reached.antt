@@ -25,7 +25,7 @@ use Rattle.station.specs.declared.station.Station.{Station}
 use Rattle.table.specs.Sound.{tableSound}
 use Rattle.table.specs.Table.{stationAt, waitingAt, putStation}
 use Rattle.table.specs.Way.{travels, between, onTheWay, atStations}
-use Rattle.table.specs.declared.pool.Waiting.the-variants.{One}
+use Rattle.pool.specs.declared.places.Waiting.the-variants.{One}
 use Rattle.table.specs.declared.table.Table.{Table}
 use Rattle.table.proofs.Sums.{station-sound}
 use Rattle.table.proofs.Tables.{table-parts}

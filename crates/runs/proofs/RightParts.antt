@@ -11,15 +11,16 @@ use Rattle.rules.specs.Below.{allBelow}
 use Rattle.station.specs.Sound.{stationSound, messageSound}
 use Rattle.rules.specs.Taking.{takeOf}
 use Rattle.station.specs.Steps.{addOf, drawOf, showOf, receiveOf}
-use Rattle.table.specs.declared.pool.Waiting.{Waiting}
-use Rattle.table.specs.declared.pool.Waiting.the-variants.{Empty, One}
-use Rattle.table.specs.declared.steps.Step.{Step}
-use Rattle.table.specs.declared.steps.Step.the-variants.{Add, Draw, Send, Deliver, Lose}
+use Rattle.pool.specs.declared.places.Waiting.{Waiting}
+use Rattle.pool.specs.declared.places.Waiting.the-variants.{Empty, One}
+use Rattle.steps.specs.declared.asked.Step.{Step}
+use Rattle.steps.specs.declared.asked.Step.the-variants.{Add, Draw, Send, Deliver, Lose}
 use Rattle.table.specs.declared.table.Table.{Table}
-use Rattle.table.specs.Table.{firstFrom, waitingAt}
+use Rattle.pool.specs.Pool.{firstFrom}
+use Rattle.table.specs.Table.{waitingAt}
 use Rattle.table.specs.Sound.{tableSound}
 use Rattle.table.specs.Fresh.{seatsTo, freshOf}
-use Rattle.table.specs.Steps.{delivered, stepOf}
+use Rattle.steps.specs.Steps.{delivered, stepOf}
 use Rattle.table.specs.Way.{atStations, onTheWay}
 use Rattle.runs.specs.Runs.{logOf, tableAfter, added, drawn, historyOf, amounting}
 use Rattle.runs.specs.Builds.{rightTaking, rightDrawing, deliveredBy, builtWith, deliversBy, deliversUnasked, drawsBy}

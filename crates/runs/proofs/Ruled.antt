@@ -13,8 +13,7 @@ use Rattle.handshake.specs.Turn.{Turn}
 use Rattle.handshake.proofs.Keeps.{not-both, same-one}
 use Rattle.handshake.proofs.Rules.{rests, fills, drops-slot, opens-slot, drops-token, makes-token}
 use Rattle.rules.specs.Limits.{lastClock}
-use Rattle.rules.specs.Rules.{acts, agree, fillBy, dropSlotBy, openSlotBy, dropTokenBy, makeTokenBy, give}
-use Rattle.rules.specs.Rules.{rests as restsAt}
+use Rattle.rules.specs.Rules.{acts, agree, fillBy, dropSlotBy, openSlotBy, dropTokenBy, makeTokenBy, give, rests as restsAt}
 use Rattle.rules.specs.Side.{putValue, putSlot, putToken, putDestination}
 use Rattle.rules.specs.Clocks.{destinationNext}
 use Rattle.rules.proofs.Below.{both-hold}

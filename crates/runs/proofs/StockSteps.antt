@@ -17,8 +17,8 @@ use Rattle.station.specs.declared.station.Station.{Station}
 use Rattle.station.specs.Steps.{putStock}
 use Rattle.table.specs.Table.{stationAt, putStation}
 use Rattle.table.specs.Sound.{tableSound}
-use Rattle.table.specs.Steps.{stepRefusals, stepDone, stepOf}
-use Rattle.table.specs.declared.steps.Step.the-variants.{Add, Draw}
+use Rattle.steps.specs.Steps.{stepRefusals, stepDone, stepOf}
+use Rattle.steps.specs.declared.asked.Step.the-variants.{Add, Draw}
 use Rattle.table.specs.declared.table.Table.{Table}
 use Rattle.table.proofs.Sums.{station-sound}
 use Rattle.table.proofs.Tables.{table-parts}

@@ -8,14 +8,13 @@ use Rattle.handshake.specs.Sums.{sumBelow}
 use Rattle.rules.specs.Below.{allBelow}
 use Rattle.station.specs.Sound.{stationSound, messageSound}
 use Rattle.station.specs.Steps.{addOf, drawOf, showOf}
-use Rattle.table.specs.Table.{firstFrom}
+use Rattle.pool.specs.Pool.{firstFrom}
 use Rattle.table.specs.Sound.{tableSound}
 use Rattle.table.specs.Fresh.{seatsTo, freshOf}
 use Rattle.runs.specs.Runs.{logOf, tableAfter, added, drawn, historyOf, amounting}
 use Rattle.runs.specs.Demand3.{Demand3}
 use Rattle.runs.specs.Builds.{builtWith}
-use Rattle.runs.specs.Broken.{oneClock, oldToken, slotUnseen, slotAgain, slotFirst, tokenComes, clockStands, tokenOfNothing}
-use Rattle.runs.specs.Broken.{clockStandsUnasked, nothingAgain, inventedDraw, overdrawn}
+use Rattle.runs.specs.Broken.{oneClock, oldToken, slotUnseen, slotAgain, slotFirst, tokenComes, clockStands, tokenOfNothing, clockStandsUnasked, nothingAgain, inventedDraw, overdrawn}
 
 -- 1. 10 were added and 15 are there: the old token was filled twice
 pub one-clock-fails : Demand3 oneClock (freshOf 2 .table) → ⊥

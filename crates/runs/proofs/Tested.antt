@@ -21,14 +21,12 @@ use Rattle.rules.specs.declared.held.HeldToken.the-variants.{NoToken, OneToken}
 use Rattle.rules.specs.declared.held.Token.{Token}
 use Rattle.rules.proofs.Below.{needed, all-at}
 use Rattle.table.specs.Table.{stationAt}
-use Rattle.table.specs.declared.steps.Step.{Step}
+use Rattle.steps.specs.declared.asked.Step.{Step}
 use Rattle.table.specs.declared.table.Table.{Table}
 use Rattle.runs.specs.Runs.{Build, Line, logOf, tableAfter, historyOf, amounting}
 use Rattle.runs.specs.Demand3.{waitsFor, Demand3}
-use Rattle.runs.specs.Clauses.{Clause, passes, departed-before, one-departure, one-arrival, way, sound, answers, stale}
-use Rattle.runs.specs.Clauses.{DepartedBefore, OnlyOne, Answered, NeverLands, says}
-use Rattle.runs.specs.Tested.{anyBelow, departureIn, arrivalIn, belongs, belongIn, sameIn, departedBy, departedBeforeTest, apart, onlyOneTest}
-use Rattle.runs.specs.Tested.{answeredTest, mayLand, landsBy, neverLandsTest, staleTest, test}
+use Rattle.runs.specs.Clauses.{Clause, passes, departed-before, one-departure, one-arrival, way, sound, answers, stale, DepartedBefore, OnlyOne, Answered, NeverLands, says}
+use Rattle.runs.specs.Tested.{anyBelow, departureIn, arrivalIn, belongs, belongIn, sameIn, departedBy, departedBeforeTest, apart, onlyOneTest, answeredTest, mayLand, landsBy, neverLandsTest, staleTest, test}
 
 -- every run keeps every clause exactly if demand 3 holds
 pub by-clauses : (build : Build) (t : Table) → ((clause : Clause) (steps : List Step) → says clause build t steps) → Demand3 build t

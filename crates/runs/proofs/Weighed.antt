@@ -18,7 +18,7 @@ use Rattle.rules.specs.declared.message.Message.{Message}
 use Rattle.rules.specs.declared.rules.Ruled.{Ruled}
 use Rattle.rules.specs.declared.side.Side.{Side}
 use Rattle.rules.proofs.InOrder.{chosen}
-use Rattle.table.specs.declared.pool.Waiting.the-variants.{One}
+use Rattle.pool.specs.declared.places.Waiting.the-variants.{One}
 use Rattle.runs.specs.Demand3.{amount}
 use Rattle.runs.specs.Runs.{arrivalBy, departureBy, entriesBy}
 

@@ -10,10 +10,10 @@ use Rattle.rules.specs.declared.held.HeldToken.the-variants.{NoToken}
 use Rattle.rules.specs.declared.message.Message.{Message}
 use Rattle.rules.specs.declared.report.Report.{Report}
 use Rattle.table.specs.Fresh.{freshOf}
-use Rattle.table.specs.Steps.{stepOf}
-use Rattle.table.specs.declared.steps.Step.{Step}
-use Rattle.table.specs.declared.steps.Step.the-variants.{Add, Send, Deliver}
-use Rattle.table.specs.declared.stepping.Stepped.{Stepped}
+use Rattle.steps.specs.Steps.{stepOf}
+use Rattle.steps.specs.declared.asked.Step.{Step}
+use Rattle.steps.specs.declared.asked.Step.the-variants.{Add, Send, Deliver}
+use Rattle.table.specs.declared.stepped.Stepped.{Stepped}
 use Rattle.table.specs.declared.table.Table.{Table}
 use Rattle.runs.specs.Runs.{tableAfter}
 

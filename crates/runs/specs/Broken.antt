@@ -20,9 +20,9 @@ use Rattle.rules.specs.Rules.{acts, rests, fill, dropSlot, openSlot, dropToken,
 use Rattle.rules.specs.Taking.{reported}
 use Rattle.station.specs.Steps.{putStock}
 use Rattle.table.specs.Table.{stationAt, putStation}
-use Rattle.table.specs.Steps.{did}
-use Rattle.table.specs.declared.steps.Step.{Step}
-use Rattle.table.specs.declared.steps.Step.the-variants.{Add, Draw, Send, Deliver}
+use Rattle.table.specs.Stepped.{did}
+use Rattle.steps.specs.declared.asked.Step.{Step}
+use Rattle.steps.specs.declared.asked.Step.the-variants.{Add, Draw, Send, Deliver}
 use Rattle.runs.specs.Runs.{Build}
 use Rattle.runs.specs.Builds.{Taking, Drawing, takesBy, deliversBy, deliversUnasked, drawsBy}
 

@@ -14,8 +14,8 @@ use Rattle.rules.specs.declared.taking.Taken.{Taken}
 use Rattle.rules.specs.Side.{putValue, putSlot}
 use Rattle.rules.specs.Rules.{acts, rests, agree, fill, dropSlot, openSlot, dropToken, makeToken}
 use Rattle.rules.specs.Taking.{reported}
-use Rattle.table.specs.declared.steps.Step.{Step}
-use Rattle.table.specs.declared.steps.Step.the-variants.{Add, Draw, Send, Deliver}
+use Rattle.steps.specs.declared.asked.Step.{Step}
+use Rattle.steps.specs.declared.asked.Step.the-variants.{Add, Draw, Send, Deliver}
 use Rattle.runs.specs.Runs.{Build}
 use Rattle.runs.specs.Builds.{Rule, Taking, takesBy, rightTaking, deliversBy, refusesAll}
 use Rattle.runs.specs.Broken.{slotShown, tokenOfNothing}

@@ -14,14 +14,16 @@ use Rattle.rules.specs.Report.{noReport}
 use Rattle.rules.specs.Rules.{fill, dropSlot, openSlot, dropToken, makeToken}
 use Rattle.rules.specs.Taking.{reported}
 use Rattle.station.specs.Side.{sideFor, putSide}
-use Rattle.table.specs.declared.pool.Waiting.{Waiting}
-use Rattle.table.specs.declared.pool.Waiting.the-variants.{Empty, One}
-use Rattle.table.specs.declared.steps.Step.{Step}
-use Rattle.table.specs.declared.steps.Step.the-variants.{Add, Draw, Send, Deliver, Lose}
-use Rattle.table.specs.declared.stepping.Stepped.{Stepped}
+use Rattle.pool.specs.declared.places.Waiting.{Waiting}
+use Rattle.pool.specs.declared.places.Waiting.the-variants.{Empty, One}
+use Rattle.steps.specs.declared.asked.Step.{Step}
+use Rattle.steps.specs.declared.asked.Step.the-variants.{Add, Draw, Send, Deliver, Lose}
+use Rattle.table.specs.declared.stepped.Stepped.{Stepped}
 use Rattle.table.specs.declared.table.Table.{Table}
-use Rattle.table.specs.Table.{mostPlaces, isEmpty, stationAt, waitingAt, putStation}
-use Rattle.table.specs.Steps.{did, answeredStep, stepRefusals, stepDone}
+use Rattle.pool.specs.Pool.{mostPlaces, isEmpty}
+use Rattle.table.specs.Table.{stationAt, waitingAt, putStation}
+use Rattle.table.specs.Stepped.{did, answeredStep}
+use Rattle.steps.specs.Steps.{stepRefusals, stepDone}
 use Rattle.runs.specs.Runs.{Build}
 
 -- a rule, the taking of a message by the rules, what a draw of an amount does at a station, and the

@@ -14,7 +14,7 @@ use Rattle.rules.specs.declared.held.Token.{Token}
 use Rattle.table.specs.Sound.{tableSound}
 use Rattle.table.specs.Table.{stationAt}
 use Rattle.table.specs.Way.{atStations, onTheWay}
-use Rattle.table.specs.declared.steps.Step.{Step}
+use Rattle.steps.specs.declared.asked.Step.{Step}
 use Rattle.table.specs.declared.table.Table.{Table}
 use Rattle.runs.specs.Runs.{Build, Line, logOf, tableAfter, added, drawn, historyOf, amounting}
 use Rattle.runs.specs.Demand3.{amount, waitsFor}

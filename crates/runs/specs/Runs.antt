@@ -13,11 +13,11 @@ use Rattle.rules.specs.declared.held.HeldToken.{HeldToken}
 use Rattle.rules.specs.declared.held.HeldToken.the-variants.{NoToken, OneToken}
 use Rattle.rules.specs.declared.message.Message.{Message}
 use Rattle.rules.specs.declared.report.Report.{Report}
-use Rattle.table.specs.declared.pool.Waiting.{Waiting}
-use Rattle.table.specs.declared.pool.Waiting.the-variants.{Empty, One}
-use Rattle.table.specs.declared.steps.Step.{Step}
-use Rattle.table.specs.declared.steps.Step.the-variants.{Add, Draw, Send, Deliver, Lose}
-use Rattle.table.specs.declared.stepping.Stepped.{Stepped}
+use Rattle.pool.specs.declared.places.Waiting.{Waiting}
+use Rattle.pool.specs.declared.places.Waiting.the-variants.{Empty, One}
+use Rattle.steps.specs.declared.asked.Step.{Step}
+use Rattle.steps.specs.declared.asked.Step.the-variants.{Add, Draw, Send, Deliver, Lose}
+use Rattle.table.specs.declared.stepped.Stepped.{Stepped}
 use Rattle.table.specs.declared.table.Table.{Table}
 use Rattle.table.specs.Table.{waitingAt}
 

@@ -8,9 +8,9 @@ use mathlib.Core.Logic.{⊎-elim}
 use native.Mathlib.Omega.{arith}
 use borrow.Author.Tests.{le-ltb}
 use lib.ListN.{length, take, length-append}
-use Rattle.table.specs.declared.steps.Asked.{Asked}
+use Rattle.steps.specs.declared.asked.Asked.{Asked}
 use Rattle.table.specs.declared.table.Table.{Table}
-use Rattle.table.specs.Running.{askedStep}
+use Rattle.steps.specs.Running.{askedStep}
 use Rattle.table.specs.Sound.{tableSound}
 use Rattle.table.specs.Way.{atStations, onTheWay}
 use Rattle.table.proofs.Tables.{table-parts}

@@ -11,10 +11,10 @@ use lib.Dec.{ltb}
 use lib.ListN.{length, getD, drop, set, length-append, length-drop}
 use lib.Seq.{sets, length-sets}
 use Rattle.rules.proofs.Stores.{then}
-use Rattle.table.specs.declared.steps.Asked.{Asked}
-use Rattle.table.specs.declared.steps.Asked.the-variants.{NoStep, OneStep}
-use Rattle.table.specs.declared.steps.Step.the-variants.{Add, Draw, Send, Deliver, Lose}
-use Rattle.table.specs.Running.{askedIn, numbersFor}
+use Rattle.steps.specs.declared.asked.Asked.{Asked}
+use Rattle.steps.specs.declared.asked.Asked.the-variants.{NoStep, OneStep}
+use Rattle.steps.specs.declared.asked.Step.the-variants.{Add, Draw, Send, Deliver, Lose}
+use Rattle.steps.specs.Running.{askedIn, numbersFor}
 use Rattle.script.specs.Words.{indexOf}
 use Rattle.script.specs.Lines.{lineOf}
 use Rattle.script.specs.Reading.{lineAt, linesFrom, numbersOf, pastLine, pastLines, readOf}

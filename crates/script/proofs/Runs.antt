@@ -11,7 +11,7 @@ use lib.Dec.{ltb}
 use lib.ListN.{length, drop, length-drop, drop-of-length-le}
 use lib.Seq.{drop-drop, drop-length}
 use Rattle.table.specs.declared.table.Table.{Table}
-use Rattle.table.specs.Running.{askedStep, leftBy}
+use Rattle.steps.specs.Running.{askedStep, leftBy}
 use Rattle.script.specs.Words.{indexOf, past, upTo}
 use Rattle.script.specs.Lines.{lineOf}
 use Rattle.script.specs.Decimal.{says}

@@ -5,7 +5,7 @@ use Rattle.rules.specs.Below.{allBelow}
 use Rattle.station.specs.Sound.{stationSound}
 use Rattle.table.specs.Sound.{tableSound}
 use Rattle.table.specs.Fresh.{freshOf, seatsTo}
-use Rattle.table.specs.Steps.{stepOf}
+use Rattle.steps.specs.Steps.{stepOf}
 use Rattle.handshake.specs.Sums.{sumBelow}
 use Rattle.script.specs.Decimal.{digitsBy, decimal, says}
 use Rattle.script.specs.Words.{numeralOf}

@@ -9,7 +9,7 @@ use borrow.Author.Tests.{ltb-false}
 use lib.Dec.{ltb}
 use lib.ListN.{length}
 use Rattle.station.specs.Sound.{countSound}
-use Rattle.table.specs.declared.stepping.Stepped.{Stepped}
+use Rattle.table.specs.declared.stepped.Stepped.{Stepped}
 use Rattle.table.specs.declared.table.Table.{Table}
 use Rattle.table.specs.Sound.{tableSound}
 use Rattle.table.specs.Fresh.{freshOf}

@@ -6,9 +6,9 @@ use native.Mathlib.Numerals.{add-one}
 use native.Mathlib.Omega.{arith}
 use lib.ListN.{length, getD, drop, length-append}
 use lib.Seq.{sets, getD-drop}
-use Rattle.table.specs.declared.steps.Asked.{Asked}
+use Rattle.steps.specs.declared.asked.Asked.{Asked}
 use Rattle.table.specs.declared.table.Table.{Table}
-use Rattle.table.specs.Running.{askedStep, toldBy}
+use Rattle.steps.specs.Running.{askedStep, toldBy}
 use Rattle.script.specs.Decimal.{says}
 use Rattle.script.specs.Telling.{saidFor, saidIn}
 use Rattle.script.proofs.Lengths.{length-says}

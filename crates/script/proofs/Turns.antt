@@ -10,11 +10,11 @@ use lib.Dec.{leb}
 use lib.ListN.{length, take, drop}
 use lib.Seq.{sets, length-sets}
 use Rattle.rules.proofs.Stores.{in-front}
-use Rattle.table.specs.declared.running.Ran.{Ran}
-use Rattle.table.specs.declared.steps.Asked.{Asked}
+use Rattle.steps.specs.declared.running.Ran.{Ran}
+use Rattle.steps.specs.declared.asked.Asked.{Asked}
 use Rattle.table.specs.declared.table.Table.{Table}
 use Rattle.table.specs.Sound.{tableSound}
-use Rattle.table.specs.Running.{askedIn, askedOf, askedStep, leftBy, ranOf, Runs, stepsIn, toldBy, toldOf}
+use Rattle.steps.specs.Running.{askedIn, askedOf, askedStep, leftBy, ranOf, Runs, stepsIn, toldBy, toldOf}
 use Rattle.script.specs.declared.reading.Read.{Read}
 use Rattle.script.specs.declared.starting.Run.{Run}
 use Rattle.script.specs.declared.filling.Filled.{Filled}

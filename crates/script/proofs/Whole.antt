@@ -8,12 +8,12 @@ use mathlib.Core.Logic.{⊎-elim}
 use native.Mathlib.Omega.{arith}
 use borrow.Author.Tests.{le-leb}
 use lib.ListN.{length}
-use Rattle.table.specs.declared.steps.Asked.{Asked}
-use Rattle.table.specs.declared.steps.Asked.the-variants.{NoStep, OneStep}
+use Rattle.steps.specs.declared.asked.Asked.{Asked}
+use Rattle.steps.specs.declared.asked.Asked.the-variants.{NoStep, OneStep}
 use Rattle.table.specs.declared.table.Table.{Table}
 use Rattle.table.specs.Sound.{tableSound}
-use Rattle.table.specs.Running.{askedStep, leftBy}
-use Rattle.table.proofs.Kept.{step-keeps}
+use Rattle.steps.specs.Running.{askedStep, leftBy}
+use Rattle.steps.proofs.Kept.{step-keeps}
 use Rattle.script.specs.declared.starting.Run.{Run}
 use Rattle.script.specs.declared.starting.Started.{Started}
 use Rattle.script.specs.Script.{mostBytes, outputOf}

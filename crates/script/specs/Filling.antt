@@ -9,7 +9,7 @@ use lib.Seq.{sets}
 use Rattle.rules.specs.Answers.{done, notSound, shortBuffer}
 use Rattle.rules.specs.Refusals.{Refusal, when}
 use Rattle.table.specs.Sound.{tableSound}
-use Rattle.table.specs.Running.{leftBy}
+use Rattle.steps.specs.Running.{leftBy}
 use Rattle.script.specs.declared.starting.Run.{Run}
 use Rattle.script.specs.declared.filling.Filled.{Filled}
 use Rattle.script.specs.Script.{mostBytes, closing}

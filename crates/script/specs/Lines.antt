@@ -2,10 +2,10 @@
 use Prim.Native.Nat.{ℕ}
 use mathlib.Core.Bool.{cond}
 use mathlib.Core.List.{List, [], _∷_}
-use Rattle.table.specs.declared.steps.Asked.{Asked}
-use Rattle.table.specs.declared.steps.Asked.the-variants.{NoStep, OneStep}
-use Rattle.table.specs.declared.steps.Step.{Step}
-use Rattle.table.specs.declared.steps.Step.the-variants.{Add, Draw, Send, Deliver, Lose}
+use Rattle.steps.specs.declared.asked.Asked.{Asked}
+use Rattle.steps.specs.declared.asked.Asked.the-variants.{NoStep, OneStep}
+use Rattle.steps.specs.declared.asked.Step.{Step}
+use Rattle.steps.specs.declared.asked.Step.the-variants.{Add, Draw, Send, Deliver, Lose}
 use Rattle.script.specs.declared.words.Numeral.{Numeral}
 use Rattle.script.specs.declared.words.Numeral.the-variants.{Unreadable, Reads}
 use Rattle.script.specs.Words.{upTo, past, numeralOf, sameBytes}

@@ -4,8 +4,8 @@ use mathlib.Core.Bool.{cond}
 use mathlib.Core.List.{List, [], _∷_, _++_}
 use lib.Dec.{ltb}
 use lib.ListN.{length, drop}
-use Rattle.table.specs.declared.steps.Asked.{Asked}
-use Rattle.table.specs.Running.{numbersFor}
+use Rattle.steps.specs.declared.asked.Asked.{Asked}
+use Rattle.steps.specs.Running.{numbersFor}
 use Rattle.script.specs.declared.reading.Read.{Read}
 use Rattle.script.specs.Words.{indexOf, upTo}
 use Rattle.script.specs.Lines.{lineOf}

@@ -6,10 +6,10 @@ use lib.Dec.{ltb}
 use lib.ListN.{length}
 use Rattle.rules.specs.Answers.{badLine, longScript}
 use Rattle.table.specs.declared.table.Table.{Table}
-use Rattle.table.specs.declared.stepping.Stepped.{Stepped}
+use Rattle.table.specs.declared.stepped.Stepped.{Stepped}
 use Rattle.table.specs.Table.{stationAt}
 use Rattle.table.specs.Fresh.{freshOf}
-use Rattle.table.specs.Running.{askedStep}
+use Rattle.steps.specs.Running.{askedStep}
 use Rattle.table.specs.Way.{onTheWay, atStations}
 use Rattle.script.specs.declared.words.Numeral.{Numeral}
 use Rattle.script.specs.declared.words.Numeral.the-variants.{Unreadable, Reads}

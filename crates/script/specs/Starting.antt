@@ -9,7 +9,7 @@ use lib.Seq.{sets}
 use Rattle.rules.specs.Answers.{done, notSound, badLine, longScript, shortBuffer}
 use Rattle.rules.specs.Refusals.{Refusal, when, answerOf}
 use Rattle.station.specs.Sound.{countSound}
-use Rattle.table.specs.declared.stepping.Stepped.{Stepped}
+use Rattle.table.specs.declared.stepped.Stepped.{Stepped}
 use Rattle.table.specs.Fresh.{blankTable, freshOf}
 use Rattle.script.specs.declared.words.Numeral.{Numeral}
 use Rattle.script.specs.declared.words.Numeral.the-variants.{Unreadable, Reads}

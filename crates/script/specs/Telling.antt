@@ -2,9 +2,9 @@
 use Prim.Native.Nat.{ℕ, zero, suc, _+_}
 use mathlib.Core.List.{List, [], _∷_, _++_}
 use lib.ListN.{getD, drop}
-use Rattle.table.specs.declared.steps.Asked.{Asked}
+use Rattle.steps.specs.declared.asked.Asked.{Asked}
 use Rattle.table.specs.declared.table.Table.{Table}
-use Rattle.table.specs.Running.{askedStep}
+use Rattle.steps.specs.Running.{askedStep}
 use Rattle.script.specs.Decimal.{says}
 
 -- one after the other from a table on, numbered from n

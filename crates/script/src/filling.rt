@@ -80,7 +80,7 @@ fn put_steps(script: &[u8], run: Run, out: &mut [u8]) -> Filled
     let lines = read.lines;
     let end = 3 * lines;
     let before = run.table;
-    let ran = table::run(before, &codes[..end], &mut told);
+    let ran = steps::run(before, &codes[..end], &mut told);
     let size = put_told(&told, lines, run.number, out);
     let table = ran.table;
     let next = Run {

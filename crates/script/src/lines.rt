@@ -7,8 +7,8 @@ use crate::words::numeral_of;
 use crate::words::rest_of;
 use crate::words::same_bytes;
 use crate::words::word_of;
-use table::steps::Asked;
-use table::steps::Step;
+use steps::asked::Asked;
+use steps::asked::Step;
 
 // What two words read as.
 enum Pair {

@@ -4,12 +4,12 @@ ghost use mathlib.Core.Path.{_≡_};
 ghost use Prim.Native.Nat.{_+_, _*_, _≤_};
 ghost use lib.ListN.{length, drop};
 ghost use lib.Seq.{sets};
-ghost use Rattle.table.specs.Running.{numbersFor};
+ghost use Rattle.steps.specs.Running.{numbersFor};
 ghost use Rattle.script.specs.Reading.{lineAt, linesFrom, numbersOf, pastLine, readOf};
 use crate::lines::line_of;
 use crate::words::index_of;
-use table::steps::Asked;
-use table::steps::numbers_for;
+use steps::asked::Asked;
+use steps::asked::numbers_for;
 
 // What is left of a script from a position on.
 fn left_from(script: &[u8], at: usize) -> &[u8]

@@ -19,10 +19,7 @@ use Rattle.station.specs.declared.outcome.Outcome.{Outcome}
 use Rattle.station.specs.Side.{sideFor}
 use Rattle.station.specs.Sound.{stationSound, messageSound}
 use Rattle.station.specs.Outcome.{refused, answered}
-use Rattle.station.specs.Steps.{told, blank, putStock, messageFor, showing, endsBelow, received as take-in}
-use Rattle.station.specs.Steps.{freshRefusals, addRefusals, drawRefusals, showRefusals, receiveRefusals}
-use Rattle.station.specs.Steps.{freshAnswer, addAnswer, drawAnswer, showAnswer, meetAnswer, receiveAnswer}
-use Rattle.station.specs.Steps.{freshOf, addOf, drawOf, showOf, receiveOf}
+use Rattle.station.specs.Steps.{told, blank, putStock, messageFor, showing, endsBelow, received as take-in, freshRefusals, addRefusals, drawRefusals, showRefusals, receiveRefusals, freshAnswer, addAnswer, drawAnswer, showAnswer, meetAnswer, receiveAnswer, freshOf, addOf, drawOf, showOf, receiveOf}
 
 pub when-done : {n : ℕ} (s : Station) (d : Outcome) → n ≡ 0 → d ≡ answered n s d
 when-done s d e = rw e

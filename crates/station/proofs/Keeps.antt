@@ -15,8 +15,7 @@ use Rattle.station.specs.Held.{noSlot, noToken}
 use Rattle.station.specs.Sound.{isPeer, cellsSound, countSound, stationSound, messageSound}
 use Rattle.station.specs.Outcome.{answered}
 use Rattle.rules.specs.Message.{noMessage}
-use Rattle.station.specs.Steps.{blank, putStock, messageFor, freshAnswer, addAnswer, drawAnswer, showAnswer, receiveAnswer}
-use Rattle.station.specs.Steps.{freshOf, addOf, drawOf, receiveOf}
+use Rattle.station.specs.Steps.{blank, putStock, messageFor, freshAnswer, addAnswer, drawAnswer, showAnswer, receiveAnswer, freshOf, addOf, drawOf, receiveOf}
 use Rattle.rules.proofs.Below.{all-from}
 use Rattle.station.proofs.Parts.{station-parts, station-whole, message-parts}
 use Rattle.rules.proofs.Refusing.{passed}

@@ -14,9 +14,10 @@ use Rattle.station.specs.Sound.{countSound, stationSound}
 use Rattle.station.specs.Steps.{blank, freshAnswer, freshOf as freshStation}
 use Rattle.rules.proofs.Below.{both-hold}
 use Rattle.station.proofs.Keeps.{fresh-sound}
-use Rattle.table.specs.declared.pool.Place.{Place}
-use Rattle.table.specs.declared.pool.Waiting.the-variants.{Empty}
-use Rattle.table.specs.Table.{mostPlaces, stationAt, waitingAt}
+use Rattle.pool.specs.declared.places.Place.{Place}
+use Rattle.pool.specs.declared.places.Waiting.the-variants.{Empty}
+use Rattle.pool.specs.Pool.{mostPlaces}
+use Rattle.table.specs.Table.{stationAt, waitingAt}
 use Rattle.table.specs.Sound.{seatSound, placeSound, tableSound}
 use Rattle.table.specs.Fresh.{seatsTo, blankTable, freshOf}
 use Rattle.table.proofs.Tables.{table-whole}

@@ -11,9 +11,9 @@ use Rattle.station.specs.Sound.{stationSound}
 use Rattle.station.specs.Steps.{messageFor, showing, showAnswer, showOf, receiveOf}
 use Rattle.station.proofs.Answering.{shown}
 use Rattle.station.proofs.Keeps.{receive-keeps, receive-seat, message-sound}
-use Rattle.table.specs.declared.pool.Waiting.{Waiting}
-use Rattle.table.specs.declared.pool.Waiting.the-variants.{One}
-use Rattle.table.specs.declared.pool.Place.{Place}
+use Rattle.pool.specs.declared.places.Waiting.{Waiting}
+use Rattle.pool.specs.declared.places.Waiting.the-variants.{One}
+use Rattle.pool.specs.declared.places.Place.{Place}
 use Rattle.table.specs.declared.table.Table.{Table}
 use Rattle.table.specs.Table.{stationAt, putStation, putPlace}
 use Rattle.table.specs.Sound.{seatSound, placeSound}

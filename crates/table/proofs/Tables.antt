@@ -10,9 +10,10 @@ use Rattle.rules.specs.Limits.{mostStations}
 use Rattle.rules.specs.Below.{allBelow}
 use Rattle.station.specs.Sound.{stationSound, messageSound}
 use Rattle.rules.proofs.Below.{needed, all-at, all-from}
-use Rattle.table.specs.declared.pool.Waiting.the-variants.{One}
+use Rattle.pool.specs.declared.places.Waiting.the-variants.{One}
 use Rattle.table.specs.declared.table.Table.{Table}
-use Rattle.table.specs.Table.{mostPlaces, stationAt, waitingAt}
+use Rattle.pool.specs.Pool.{mostPlaces}
+use Rattle.table.specs.Table.{stationAt, waitingAt}
 use Rattle.table.specs.Sound.{seatSound, placeSound, tableSound}
 
 -- a station at its number, and a message that waits

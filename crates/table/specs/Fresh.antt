@@ -10,11 +10,11 @@ use Rattle.rules.specs.Limits.{mostStations}
 use Rattle.rules.specs.Report.{noReport}
 use Rattle.station.specs.Sound.{countSound}
 use Rattle.station.specs.Steps.{blank}
-use Rattle.table.specs.declared.pool.Waiting.the-variants.{Empty}
+use Rattle.pool.specs.declared.places.Waiting.the-variants.{Empty}
 use Rattle.table.specs.declared.table.Table.{Table}
-use Rattle.table.specs.declared.stepping.Stepped.{Stepped}
-use Rattle.table.specs.Table.{mostPlaces}
-use Rattle.table.specs.Steps.{did, answeredStep}
+use Rattle.table.specs.declared.stepped.Stepped.{Stepped}
+use Rattle.pool.specs.Pool.{mostPlaces}
+use Rattle.table.specs.Stepped.{did, answeredStep}
 
 -- fresh stations at the numbers below k; every number 0 and nothing held at the others
 unfoldable pub seatsTo : ℕ → ℕ → List Station

@@ -1,10 +1,5 @@
 pub mod Table
 pub mod Sound
-pub mod Steps
-pub mod Running
-pub mod Cells
-pub mod Looking
-pub mod Planning
+pub mod Stepped
 pub mod Fresh
 pub mod Way
-pub mod Lent

@@ -14,7 +14,7 @@ use Rattle.rules.specs.Rules.{agree}
 use Rattle.table.specs.declared.table.Table.{Table}
 use Rattle.table.specs.declared.way.Summed.{Summed}
 use Rattle.table.specs.Table.{stationAt}
-use Rattle.table.specs.Steps.{unsound}
+use Rattle.table.specs.Sound.{unsound}
 
 -- a token is on the way while its destination has a slot for its maker with both clocks the same
 abbrev pub travels : HeldToken → HeldSlot → ℕ

@@ -2,12 +2,13 @@
 ghost use mathlib.Core.Path.{_≡_};
 ghost use Rattle.rules.specs.Limits.{mostStations};
 ghost use Rattle.rules.specs.Below.{allBelow};
-ghost use Rattle.table.specs.Table.{mostPlaces, placeIn, stationIn};
+ghost use Rattle.pool.specs.Pool.{mostPlaces, placeIn};
+ghost use Rattle.table.specs.Table.{stationIn};
 ghost use Rattle.table.specs.Sound.{seatSound, placeSound, tableSound};
-use crate::pool::MOST_PLACES;
-use crate::pool::Place;
-use crate::pool::Waiting;
 use crate::table::Table;
+use pool::places::MOST_PLACES;
+use pool::places::Place;
+use pool::places::Waiting;
 use rules::limits::LEAST_STATIONS;
 use rules::limits::MOST_STATIONS;
 use station::sound::message_is_sound;

@@ -1,6 +1,6 @@
 // A table by value.
-use crate::pool::MOST_PLACES;
-use crate::pool::Place;
+use pool::places::MOST_PLACES;
+use pool::places::Place;
 use rules::limits::MOST_STATIONS;
 use station::station::Station;
 

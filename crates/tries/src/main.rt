@@ -1,6 +1,8 @@
 // Input at the edges, through the compiled entry points. Each line is the words, the answer and the
 // result.
 use libc::STDOUT_FILENO;
+use pool::places::Place;
+use pool::places::Waiting;
 use rules::clocks::DestinationClock;
 use rules::clocks::SourceClock;
 use rules::held::HeldSlot;
@@ -9,9 +11,7 @@ use rules::held::Slot;
 use rules::held::Token;
 use rules::message::Message;
 use station::station::Station;
-use table::pool::Place;
-use table::pool::Waiting;
-use table::steps::Step;
+use steps::asked::Step;
 use table::table::Table;
 
 const LARGEST: u64 = 18446744073709551615;
@@ -182,7 +182,7 @@ fn received() {
 
 // One step, told; the table after it.
 fn go(words: &[u8], t: Table, s: Step) -> Table {
-    let r = table::step(t, s);
+    let r = steps::step(t, s);
     tell(words, r.answer, r.result);
     r.table
 }
@@ -236,33 +236,33 @@ fn pools() {
         waiting: Waiting::Empty,
     };
     let m = full_message();
-    let first = table::lent::send_value([empty; 64], m);
+    let first = pool::lent::send_value([empty; 64], m);
     let told = first.told;
     tell(b"send into an empty pool", told.answer, told.result);
     let after_first = first.pool;
-    let second = table::lent::send_value(after_first, m);
+    let second = pool::lent::send_value(after_first, m);
     let then = second.told;
     tell(b"send again", then.answer, then.result);
     let after_second = second.pool;
-    let third = table::lent::lose_value(after_second, 0);
+    let third = pool::lent::lose_value(after_second, 0);
     let lost = third.told;
     tell(b"lose place 0", lost.answer, lost.result);
     let after_third = third.pool;
-    let fourth = table::lent::send_value(after_third, m);
+    let fourth = pool::lent::send_value(after_third, m);
     let again = fourth.told;
     tell(b"send into the freed place", again.answer, again.result);
     let after_fourth = fourth.pool;
-    let fifth = table::lent::lose_value(after_fourth, 2);
+    let fifth = pool::lent::lose_value(after_fourth, 2);
     let nothing = fifth.told;
     tell(b"lose an empty place", nothing.answer, nothing.result);
     let after_fifth = fifth.pool;
-    let sixth = table::lent::lose_value(after_fifth, 64);
+    let sixth = pool::lent::lose_value(after_fifth, 64);
     let beyond = sixth.told;
     tell(b"lose place 64", beyond.answer, beyond.result);
     let taken = Place {
         waiting: Waiting::One(m),
     };
-    let last = table::lent::send_value([taken; 64], m);
+    let last = pool::lent::send_value([taken; 64], m);
     let full = last.told;
     tell(b"send into a full pool", full.answer, full.result);
 }

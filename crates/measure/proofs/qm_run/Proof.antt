@@ -1,5 +1,5 @@
 use mathlib.Core.Path.{ap, _∙_}
-use Rattle.table.specs.declared.running.Ran.{Ran}
+use Rattle.steps.specs.declared.running.Ran.{Ran}
 use borrow.Author.Needs.{needs}
 use Rattle.measure.proofs.qm_run.Statement.{statement}
 use Rattle.measure.proofs.qm_run.Tie as tie

@@ -1,7 +1,7 @@
 use mathlib.Core.Path.{_≡_, sym, _∙_}
 use borrow.Author.Needs.{needs}
 use denote.Ref.{now}
-use Rattle.table.specs.declared.steps.Step.the-variants.{Add, Draw, Send}
+use Rattle.steps.specs.declared.asked.Step.the-variants.{Add, Draw, Send}
 use Rattle.script.specs.Lines.{wordAdd, wordDraw, wordSend, wordDeliver, wordLose}
 use Rattle.script.proofs.Asked.{asks-none, asks-two, word-is}
 use Rattle.script.proofs.lines.line_by.Statement.{statement}

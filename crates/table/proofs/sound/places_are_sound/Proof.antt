@@ -5,9 +5,9 @@ use Prim.Native.Nat.{ℕ, _≤_, _-_}
 use mathlib.Core.Bool.{Bool}
 use Rattle.rules.specs.Below.{allBelow}
 use mathlib.Core.List.{List}
-use Rattle.table.specs.declared.pool.Place.{Place}
+use Rattle.pool.specs.declared.places.Place.{Place}
 use Rattle.rules.proofs.Below.{all-none, all-more}
-use Rattle.table.specs.Table.{placeIn}
+use Rattle.pool.specs.Pool.{placeIn}
 use Rattle.table.specs.Sound.{placeSound}
 use Rattle.table.proofs.sound.places_are_sound.Statement.{statement}
 use Rattle.table.proofs.sound.places_are_sound.Tie as tie

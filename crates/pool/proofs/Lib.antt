@@ -1,0 +1,4 @@
+pub mod First
+pub mod LentAnswers
+pub mod LentPool
+pub mod LentBridge

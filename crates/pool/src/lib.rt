@@ -1,0 +1,3 @@
+// The pool in which messages wait, by value and lent.
+pub mod lent;
+pub mod places;

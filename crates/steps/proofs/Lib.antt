@@ -1,0 +1,13 @@
+pub mod Plans
+pub mod Fives
+pub mod Flags
+pub mod Held
+pub mod Rests
+pub mod Looks
+pub mod InPlace
+pub mod Turns
+pub mod Ran
+pub mod Kept
+pub mod Same
+pub mod LentSame
+pub mod Lowest

@@ -1,0 +1,119 @@
+-- One turn of the loop that holds a table: what is still to be done from there gives the whole.
+-- Assumes nothing.
+use Prim.Native.Nat.{ℕ, zero, suc, _+_, _*_, _-_, _<_, _≤_}
+use mathlib.Core.Path.{_≡_, refl, sym, _∙_, ap}
+use mathlib.Core.Bool.{true}
+use mathlib.Core.List.{List, [], _∷_, _++_}
+use native.Mathlib.Nat.{add-zero, zero-add, suc-add, sub-zero}
+use native.Mathlib.Omega.{arith}
+use lib.ListN.{length, getD, set, drop}
+use lib.Seq.{sets, drop-nil, getD-drop, length-sets}
+use Rattle.rules.specs.declared.side.Side.{Side}
+use Rattle.rules.proofs.Stores.{then}
+use Rattle.station.specs.declared.station.Station.{Station}
+use Rattle.station.specs.Side.{sideFor}
+use Rattle.station.specs.Steps.{putStock}
+use Rattle.steps.specs.declared.cells.Cells.{Cells}
+use Rattle.steps.specs.declared.looking.Looked.{Looked}
+use Rattle.steps.specs.declared.planning.Plan.{Plan}
+use Rattle.steps.specs.declared.asked.Asked.{Asked}
+use Rattle.table.specs.declared.stepped.Stepped.{Stepped}
+use Rattle.table.specs.declared.table.Table.{Table}
+use Rattle.pool.specs.Pool.{mostPlaces}
+use Rattle.steps.specs.Looking.{below, placeLookedAt, seatLookedAt, flagsOf, freeFor}
+use Rattle.table.specs.Table.{noStation, stationAt, waitingAt, putStation}
+use Rattle.table.specs.Sound.{tableSound}
+use Rattle.steps.specs.Running.{askedBy, askedStep, tells, askedIn, toldBy, leftBy, ranBy}
+use Rattle.steps.specs.Cells.{cellsOf}
+use Rattle.steps.specs.Planning.{planAt, changed}
+use Rattle.steps.proofs.InPlace.{placed}
+use Rattle.steps.proofs.Kept.{asked-keeps}
+
+-- what is left to be asked for past n steps
+abbrev pub askedFrom : List ℕ → ℕ → ℕ → List Asked
+askedFrom codes steps n = askedIn (steps - n) (drop (3 * n) codes)
+
+dropped : {A : Type 0} (m n : ℕ) (l : List A) → drop m (drop n l) ≡ drop (n + m) l
+dropped m zero l = rw zero-add
+dropped m (suc n) [] = drop-nil m ∙ sym (drop-nil (suc n + m))
+dropped m (suc n) (x ∷ xs) = rw suc-add (dropped m n xs)
+
+asked-on : (codes : List ℕ) (steps n : ℕ) → n < steps
+    → askedFrom codes steps n ≡ askedBy (getD codes (3 * n) 0) (getD codes (3 * n + 1) 0) (getD codes (3 * n + 2) 0) ∷ askedFrom codes steps (n + 1)
+unfolding askedIn
+asked-on codes steps n h =
+    let e : steps - n ≡ suc (steps - (n + 1)) = omega arith in
+    let f : 3 * n + 3 ≡ 3 * (n + 1) = omega arith in
+    rw (e, getD-drop (3 * n) codes 0 0, add-zero, getD-drop (3 * n) codes 1 0, getD-drop (3 * n) codes 2 0, dropped 3 (3 * n) codes, f)
+
+asked-ended : (codes : List ℕ) (steps n : ℕ) → steps ≤ n → askedFrom codes steps n ≡ []
+unfolding askedIn
+asked-ended codes steps n h = let e : steps - n ≡ 0 = omega arith in rw e
+
+-- where the loop stands: the table is sound, the flags are those of its pool, the cells those of
+-- its stations, and what is left to do from here gives the whole
+pub record Going (codes told₀ : List ℕ) (steps : ℕ) (t₀ : Table) (told : List ℕ) (t : Table) (cells : List Cells) (taken : List ℕ) (n : ℕ) : Type 0 where
+  pub count : n ≤ steps
+  pub room : length told ≡ length told₀
+  pub sound : tableSound t ≡ true
+  pub flags : taken ≡ flagsOf (t .pool)
+  pub held : cells ≡ cellsOf (t .stations)
+  pub left : leftBy t (askedFrom codes steps n) ≡ leftBy t₀ (askedIn steps codes)
+  pub says : sets told (5 * n) (toldBy t (askedFrom codes steps n)) ≡ sets told₀ 0 (toldBy t₀ (askedIn steps codes))
+
+pub set-out : (codes told : List ℕ) (steps : ℕ) {cells : List Cells} {taken : List ℕ} (t : Table) → tableSound t ≡ true → cells ≡ cellsOf (t .stations)
+    → taken ≡ flagsOf (t .pool) → Going codes told steps t told t cells taken 0
+set-out codes told steps t e h f =
+    let start : askedFrom codes steps 0 ≡ askedIn steps codes = rw (sub-zero steps) in
+    record { count = omega arith; room = refl; sound = e; flags = f; held = h; left = rw start; says = rw start }
+
+module _ {codes told₀ : List ℕ} {steps : ℕ} {t₀ : Table} {told : List ℕ} {t : Table} {cells : List Cells} {taken : List ℕ} {n : ℕ}
+    (g : Going codes told₀ steps t₀ told t cells taken n) where
+  pub turn : {asked : Asked} (s : Stepped) {told′ : List ℕ} {cells′ : List Cells} {taken′ : List ℕ} → n < steps
+      → asked ≡ askedBy (getD codes (3 * n) 0) (getD codes (3 * n + 1) 0) (getD codes (3 * n + 2) 0) → s ≡ askedStep t asked
+      → told′ ≡ sets told (5 * n) (tells s) → cells′ ≡ cellsOf (s .table .stations) → taken′ ≡ flagsOf (s .table .pool)
+      → Going codes told₀ steps t₀ told′ (s .table) cells′ taken′ (n + 1)
+  unfolding leftBy toldBy
+  turn {asked} s h a d p e f =
+      let rest = askedFrom codes steps (n + 1) in
+      let on : askedFrom codes steps n ≡ asked ∷ rest = rw a (asked-on codes steps n h) in
+      let next : 5 * n + 5 ≡ 5 * (n + 1) = omega arith in
+      let left : leftBy (s .table) rest ≡ leftBy t₀ (askedIn steps codes) = rw d (rw on at (g .left)) in
+      let says : sets told (5 * n) (tells s ++ toldBy (s .table) rest) ≡ sets told₀ 0 (toldBy t₀ (askedIn steps codes)) = rw d (rw on at (g .says)) in
+      record {
+        count = omega arith;
+        room = ap length p ∙ length-sets told (5 * n) (tells s) ∙ g .room;
+        sound = rw d (asked-keeps t asked (g .sound));
+        flags = f;
+        held = e;
+        left = left;
+        says = then told (5 * n) (5 * (n + 1)) (tells s) (toldBy (s .table) rest) _ _ p refl next ∙ says;
+      }
+
+  pub ended : steps ≤ n → (record { answer = 0; result = steps; table = t } ≡ ranBy t₀ steps codes) × (told ≡ sets told₀ 0 (toldBy t₀ (askedIn steps codes)))
+  unfolding leftBy toldBy
+  ended h =
+      let e = asked-ended codes steps n h in
+      let all : t ≡ leftBy t₀ (askedIn steps codes) = rw e at (g .left) in
+      (rw all, rw e at (g .says))
+
+-- the step that a plan is, by what was looked up for it
+pub found : (t : Table) (asked : Asked) {taken : List ℕ} {i free : ℕ} {l : Looked} {x : Side} (p : Plan) {next : Table} → tableSound t ≡ true → taken ≡ flagsOf (t .pool)
+    → i ≡ below (placeLookedAt asked) mostPlaces → free ≡ freeFor asked taken → l ≡ seatLookedAt asked (waitingAt t i) → x ≡ sideFor (stationAt t (l .station)) (l .peer)
+    → p ≡ planAt (t .count) asked (stationAt t (l .station) .intake) x (waitingAt t i) free → next ≡ changed t (l .station) (l .peer) (p .change)
+    → record { answer = p .answer; result = p .result; report = p .report; table = next } ≡ askedStep t asked
+found t asked p sound flags ei ef el ex ep en = rw (en, ep, ex, el, ef, ei, flags) (placed t sound asked)
+
+-- two stores at one place
+set-twice : {A : Type 0} (xs : List A) (k : ℕ) (a d : A) (f : A → A) → set (set xs k a) k (f (getD (set xs k a) k d)) ≡ set xs k (f a)
+set-twice [] k a d f = refl
+set-twice (x ∷ xs) zero a d f = refl
+set-twice {A = A} (x ∷ xs) (suc k) a d f = ap (λ (rest : List A). x ∷ rest) (set-twice xs k a d f)
+
+pub stocked : (t : Table) (k value intake : ℕ) → let s = stationAt t k in
+    record {
+      count = t .count;
+      stations = let once = set (t .stations) k (putStock s value (s .intake)) in let u = getD once k noStation in set once k (putStock u (u .value) intake);
+      pool = t .pool;
+    } ≡ putStation t k (putStock s value intake)
+stocked t k value intake = let s = stationAt t k in rw (set-twice (t .stations) k (putStock s value (s .intake)) noStation (λ u. putStock u (u .value) intake))

@@ -1,0 +1,34 @@
+// What a table can be asked to do, and the numbers that name it.
+ghost use mathlib.Core.Path.{_≡_};
+ghost use Rattle.steps.specs.Running.{numbersFor};
+
+// A station and an amount; a sender and a receiver; a place.
+pub enum Step {
+    Add(u64, u64),
+    Draw(u64, u64),
+    Send(u64, u64),
+    Deliver(u64),
+    Lose(u64),
+}
+
+// What was asked for names a step, or none.
+pub enum Asked {
+    NoStep,
+    OneStep(Step),
+}
+
+// Three numbers, as a run of steps is lent them.
+pub fn numbers_for(asked: Asked) -> [u64; 3]
+    ensures { λ r. ⌜ r ≡ numbersFor asked ⌝ }
+{
+    let Asked::OneStep(step) = asked else {
+        return [5, 0, 0];
+    };
+    match step {
+        Step::Add(k, amount) => [0, k, amount],
+        Step::Draw(k, amount) => [1, k, amount],
+        Step::Send(from, to) => [2, from, to],
+        Step::Deliver(p) => [3, p, 0],
+        Step::Lose(p) => [4, p, 0],
+    }
+}

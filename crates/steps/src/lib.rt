@@ -1,0 +1,11 @@
+// The steps that drive a table, one at a time or as a run of them.
+pub mod asked;
+mod cells;
+mod looking;
+pub mod planning;
+pub mod running;
+pub mod stepping;
+mod taken;
+
+pub use running::run;
+pub use stepping::step;
