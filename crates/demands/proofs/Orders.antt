@@ -4,19 +4,16 @@ use Prim.Native.Nat.{ℕ, zero, suc, _<_}
 use mathlib.Core.Path.{_≡_, refl, ap, sym, _∙_}
 use mathlib.Core.Bool.{Bool, true, false, cond, not}
 use mathlib.Core.List.{List, [], _∷_, map, List·Memᴰ·head, List·Memᴰ·tail}
-use lib.Dec.{ltb}
 use lib.ListN.{length}
 use Rattle.rules.specs.declared.message.Message.{Message}
 use Rattle.rules.specs.declared.side.Side.{Side}
-use Rattle.rules.specs.Answers.{done, notSound, noRecord, longScript, shortBuffer}
+use Rattle.rules.specs.Answers.{notSound, noRecord}
 use Rattle.rules.specs.Limits.{mostStations}
-use Rattle.rules.specs.Refusals.{Refusal, when, answerOf, numbersIn}
-use Rattle.rules.proofs.Below.{by-test}
+use Rattle.rules.specs.Refusals.{Refusal, answerOf, numbersIn}
 use Rattle.rules.specs.Stock.{addToRefusals, drawFromRefusals}
 use Rattle.rules.specs.Taking.{takeRefusals}
 use Rattle.rules.proofs.Refusing.{answer-among, add-to-tells, draw-from-tells, take-tells}
 use Rattle.station.specs.declared.station.Station.{Station}
-use Rattle.station.specs.Sound.{countSound}
 use Rattle.station.specs.Steps.{freshRefusals, addRefusals, drawRefusals, showRefusals, receiveRefusals, receiveOf}
 use Rattle.station.proofs.Answering.{fresh-tells, add-tells, draw-tells, show-tells, receive-tells}
 use Rattle.record.specs.declared.writing.Written.{Written}

@@ -1,6 +1,6 @@
 -- Four numbers that are a slot or a token. Assumes nothing.
 use Prim.Native.Nat.{ℕ, suc, _+_, _<_, _≤_}
-use mathlib.Core.Path.{_≡_, refl}
+use mathlib.Core.Path.{_≡_}
 use mathlib.Core.Bool.{true, _||_, and-false}
 use mathlib.Core.List.{List}
 use native.Mathlib.Omega.{arith}

@@ -7,7 +7,7 @@ use mathlib.Core.List.{List, [], _∷_, _++_, append-nil}
 use native.Mathlib.Omega.{arith}
 use native.Mathlib.Numerals.{add-one}
 use lib.Dec.{ltb}
-use lib.ListN.{length, getD, drop, set, length-append, drop-of-length-le, List·getD-append}
+use lib.ListN.{length, getD, set, length-append, drop-of-length-le, List·getD-append}
 use lib.Seq.{sets, sets-eq, ext-getD, getD-append-add}
 use borrow.Author.Tests.{ltb-true, ltb-false}
 use Rattle.quynhabet.specs.Layout.{inTurn}

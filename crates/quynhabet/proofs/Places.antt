@@ -3,14 +3,14 @@ use Prim.Native.Nat.{ℕ, _+_, _*_, _<_}
 use mathlib.Core.Path.{_≡_, refl, ap, _∙_}
 use mathlib.Core.List.{List, _++_}
 use native.Mathlib.Omega.{arith}
-use lib.ListN.{length, getD, List·getD-append}
+use lib.ListN.{getD, List·getD-append}
 use lib.Seq.{getD-append-add}
 use Rattle.station.specs.declared.held.SlotCell.{SlotCell}
 use Rattle.station.specs.declared.held.TokenCell.{TokenCell}
 use Rattle.station.specs.declared.station.Station.{Station}
 use Rattle.station.specs.Held.{noSlot, noToken, slotFor, tokenFor}
 use Rattle.rules.specs.Limits.{mostStations}
-use Rattle.quynhabet.specs.Layout.{fourNumbers, fourAt, slotFour, tokenFour, slotPlace, tokenPlace, slotNumbersAt, tokenNumbersAt, slotsNumbers, tokensNumbers, firstNumbers, numbersOf, slotOf, tokenOf, slotCell, tokenCell, stationOf}
+use Rattle.quynhabet.specs.Layout.{fourAt, slotFour, tokenFour, slotPlace, tokenPlace, slotNumbersAt, tokenNumbersAt, slotsNumbers, tokensNumbers, firstNumbers, numbersOf, slotOf, tokenOf, slotCell, tokenCell, stationOf}
 use Rattle.quynhabet.proofs.InTurn.{at-ones, at-fours}
 use Rattle.quynhabet.proofs.Lengths.{length-front}
 use Rattle.quynhabet.proofs.FoursBack.{four-at}

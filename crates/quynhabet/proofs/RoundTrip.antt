@@ -10,11 +10,8 @@ use lib.Dec.{ltb}
 use lib.ListN.{length, getD}
 use lib.Seq.{ext-getD}
 use borrow.Author.Tests.{ltb-true, ltb-false, le-leb}
-use Rattle.station.specs.declared.held.SlotCell.{SlotCell}
-use Rattle.station.specs.declared.held.TokenCell.{TokenCell}
 use Rattle.rules.specs.declared.message.Message.{Message}
 use Rattle.station.specs.declared.station.Station.{Station}
-use Rattle.rules.specs.Below.{allBelow}
 use Rattle.station.specs.Held.{noSlot, noToken, slotFor, tokenFor}
 use Rattle.rules.specs.Limits.{mostStations}
 use Rattle.station.specs.Sound.{stationSound, messageSound}

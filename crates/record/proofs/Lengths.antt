@@ -2,7 +2,6 @@
 -- nothing.
 use Prim.Native.Nat.{ℕ, _+_}
 use mathlib.Core.Path.{_≡_, refl, ap, _∙_}
-use native.Mathlib.Omega.{arith}
 use lib.ListN.{length, length-append}
 use Rattle.rules.specs.declared.clocks.SourceClock.{SourceClock}
 use Rattle.rules.specs.declared.clocks.DestinationClock.{DestinationClock}

@@ -1,6 +1,6 @@
 -- The refusals of receiving bytes, in their order: 1, then 9 where the bytes are no record, then
 -- those of receiving the message. Assumes nothing.
-use mathlib.Core.Path.{_≡_, refl, ap, _∙_}
+use mathlib.Core.Path.{_≡_, ap, _∙_}
 use mathlib.Core.List.{List}
 use mathlib.Core.Bool.{true, false, and-false}
 use Prim.Native.Nat.{ℕ}

@@ -1,7 +1,7 @@
 -- Half of the difference of two values, by the sign of the difference. Assumes nothing.
 use Prim.Native.Nat.{ℕ, zero, suc, _/_, _<_, _≤_, _-_}
 use mathlib.Core.Path.{_≡_, refl}
-use mathlib.Core.Bool.{Bool, true, false}
+use mathlib.Core.Bool.{true, false}
 use native.Mathlib.Omega.{arith}
 use lib.IntN.{ℤ, pos, negsuc, natAbs, _-ℤ_}
 use lib.Dec.{T, ltb}

@@ -7,7 +7,6 @@ use native.Mathlib.Omega.{arith}
 use lib.Dec.{ltb}
 use borrow.Author.Tests.{ltb-true, le-ltb, not-false}
 use Rattle.handshake.specs.History.{Entry}
-use Rattle.rules.specs.declared.message.Message.{Message}
 use Rattle.rules.specs.Limits.{mostValue}
 use Rattle.rules.specs.Refusals.{when, answerOf}
 use Rattle.rules.specs.Rules.{fill}

@@ -1,7 +1,6 @@
 -- Each clause of demand 3 can be false alone: for each a build and steps for which it fails, and
 -- every other clause holds. So none of them follows from the others, and none can be left out.
 -- Assumes nothing.
-use Prim.Native.Nat.{ℕ}
 use mathlib.Core.Path.{refl}
 use mathlib.Core.Bool.{false≢true}
 use mathlib.Core.List.{List, _++_}

@@ -1,7 +1,7 @@
 -- A run that passes the test of a clause keeps the clause; and the clauses are demand 3, all of it.
 -- Assumes nothing.
 use Prim.Native.Nat.{ℕ, zero, suc, _+_, _<_}
-use mathlib.Core.Path.{_≡_, refl, ap, sym, _∙_, subst}
+use mathlib.Core.Path.{_≡_, refl, ap, sym, subst}
 use mathlib.Core.Bool.{Bool, true, false, _||_, and-false}
 use mathlib.Core.List.{List, [], _∷_, _++_}
 use mathlib.Core.Logic.{_≢_}
@@ -9,7 +9,7 @@ use mathlib.Core.Option.{Option, none, some}
 use native.Mathlib.Omega.{arith}
 use lib.Dec.{eqb}
 use lib.ListN.{length}
-use borrow.Author.Tests.{eqb-true, eqb-false, eq-eqb, not-true}
+use borrow.Author.Tests.{eqb-true, eq-eqb}
 use Rattle.handshake.specs.Channel.{Held}
 use Rattle.handshake.specs.History.{Transfer, Entry, transfer, departure, arrival, at, Belong}
 use Rattle.rules.specs.Below.{allBelow}
@@ -17,7 +17,7 @@ use Rattle.rules.specs.Answers.{notSound, valueLimit}
 use Rattle.station.specs.Held.{slotFor, tokenFor}
 use Rattle.rules.specs.declared.held.HeldSlot.{HeldSlot}
 use Rattle.rules.specs.declared.held.HeldToken.{HeldToken}
-use Rattle.rules.specs.declared.held.HeldToken.the-variants.{NoToken, OneToken}
+use Rattle.rules.specs.declared.held.HeldToken.the-variants.{OneToken}
 use Rattle.rules.specs.declared.held.Token.{Token}
 use Rattle.rules.proofs.Below.{needed, all-at}
 use Rattle.table.specs.Table.{stationAt}
@@ -26,7 +26,7 @@ use Rattle.table.specs.declared.table.Table.{Table}
 use Rattle.runs.specs.Runs.{Build, Line, logOf, tableAfter, historyOf, amounting}
 use Rattle.runs.specs.Demand3.{waitsFor, Demand3}
 use Rattle.runs.specs.Clauses.{Clause, passes, departed-before, one-departure, one-arrival, way, sound, answers, stale, DepartedBefore, OnlyOne, Answered, NeverLands, says}
-use Rattle.runs.specs.Tested.{anyBelow, departureIn, arrivalIn, belongs, belongIn, sameIn, departedBy, departedBeforeTest, apart, onlyOneTest, answeredTest, mayLand, landsBy, neverLandsTest, staleTest, test}
+use Rattle.runs.specs.Tested.{anyBelow, departureIn, arrivalIn, belongs, sameIn, departedBy, departedBeforeTest, apart, onlyOneTest, answeredTest, mayLand, landsBy, neverLandsTest, staleTest, test}
 
 -- every run keeps every clause exactly if demand 3 holds
 pub by-clauses : (build : Build) (t : Table) → ((clause : Clause) (steps : List Step) → says clause build t steps) → Demand3 build t

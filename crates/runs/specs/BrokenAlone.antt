@@ -17,7 +17,7 @@ use Rattle.rules.specs.Taking.{reported}
 use Rattle.steps.specs.declared.asked.Step.{Step}
 use Rattle.steps.specs.declared.asked.Step.the-variants.{Add, Draw, Send, Deliver}
 use Rattle.runs.specs.Runs.{Build}
-use Rattle.runs.specs.Builds.{Rule, Taking, takesBy, rightTaking, deliversBy, refusesAll}
+use Rattle.runs.specs.Builds.{Rule, takesBy, rightTaking, deliversBy, refusesAll}
 use Rattle.runs.specs.Broken.{slotShown, tokenOfNothing}
 
 -- a build with another rule 5, and one with another rule 1

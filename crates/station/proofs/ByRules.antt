@@ -10,7 +10,6 @@ use Rattle.rules.specs.Taking.{takeOf, takeAnswer, takenOf}
 use Rattle.rules.specs.Stock.{stocked, addToAnswer, addDone, addedTo, drawFromAnswer, drawDone, drawnFrom}
 use Rattle.rules.proofs.Refusing.{answer-before, take-tells, take-done}
 use Rattle.station.specs.declared.station.Station.{Station}
-use Rattle.station.specs.declared.outcome.Outcome.{Outcome}
 use Rattle.station.specs.Side.{sideFor}
 use Rattle.station.specs.Sound.{stationSound}
 use Rattle.station.specs.Outcome.{refused, answered}

@@ -1,7 +1,7 @@
 -- Soundness of a station and of a message, part by part. Assumes nothing.
 use Prim.Native.Nat.{ℕ, _<_, _≤_}
 use mathlib.Core.Path.{_≡_, refl}
-use mathlib.Core.Bool.{true, false, _||_, not, and-false}
+use mathlib.Core.Bool.{true, _||_, not, and-false}
 use lib.Dec.{ltb, leb, eqb}
 use borrow.Author.Tests.{ltb-true, leb-true, lt-ltb, le-leb, eqb-false, not-true}
 use Rattle.rules.specs.declared.clocks.SourceClock.{SourceClock}

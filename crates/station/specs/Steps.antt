@@ -23,7 +23,7 @@ use Rattle.station.specs.declared.outcome.Outcome.{Outcome}
 use Rattle.station.specs.Held.{noSlot, noToken, slotFor, tokenFor}
 use Rattle.station.specs.Side.{sideFor, putSide}
 use Rattle.station.specs.Sound.{countSound, stationSound, messageSound}
-use Rattle.station.specs.Outcome.{refused, answered}
+use Rattle.station.specs.Outcome.{answered}
 
 -- a step done: its result, its report and the station after it
 abbrev pub told : ℕ → Report → Station → Outcome

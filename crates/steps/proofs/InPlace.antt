@@ -1,17 +1,16 @@
 -- A step done where the table is held: what its plan changes, by what it looked up, leaves the
 -- table that the step leaves, and tells what the step tells.
 -- Assumes nothing.
-use Prim.Native.Nat.{ℕ, zero, suc, _+_, _-_, _<_, _≤_, min}
-use mathlib.Core.Path.{_≡_, refl, sym, _∙_}
+use Prim.Native.Nat.{ℕ, zero, suc, _+_, _-_, _<_, _≤_}
+use mathlib.Core.Path.{_≡_, refl}
 use mathlib.Core.Bool.{Bool, true, false, not, _&&_, and-false}
-use mathlib.Core.List.{List, [], _∷_}
+use mathlib.Core.List.{[], _∷_}
 use native.Mathlib.Omega.{arith}
-use lib.Dec.{ltb, eqb, leb}
+use lib.Dec.{ltb, leb}
 use borrow.Author.Tests.{ltb-true, lt-ltb, le-leb, le-ltb, not-false}
 use Rattle.rules.specs.declared.held.HeldToken.{HeldToken}
 use Rattle.rules.specs.declared.held.HeldToken.the-variants.{NoToken, OneToken}
 use Rattle.rules.specs.declared.message.Message.{Message}
-use Rattle.rules.specs.declared.side.Side.{Side}
 use Rattle.rules.specs.declared.stock.Stock.{Stock}
 use Rattle.rules.specs.Answers.{badAmount, intakeLimit, valueLimit}
 use Rattle.rules.specs.Limits.{mostStations, mostIntake, mostValue}
@@ -22,10 +21,9 @@ use Rattle.rules.specs.Stock.{amountSound, stocked, addedTo, drawnFrom, addDone
 use Rattle.rules.specs.Taking.{takeOf, takenBy, takenOf, messageSmall, tokenSmall}
 use Rattle.rules.proofs.Below.{both-hold, needed}
 use Rattle.rules.proofs.Refusing.{passed}
-use Rattle.station.specs.declared.station.Station.{Station}
 use Rattle.station.specs.Side.{sideFor}
 use Rattle.station.specs.Sound.{tokenSound}
-use Rattle.station.specs.Steps.{putStock, messageFor}
+use Rattle.station.specs.Steps.{messageFor}
 use Rattle.station.proofs.Parts.{station-parts, message-parts}
 use Rattle.steps.specs.declared.planning.Change.the-variants.{AtSide}
 use Rattle.steps.specs.declared.planning.Plan.{Plan}

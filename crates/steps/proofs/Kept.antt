@@ -5,17 +5,13 @@ use mathlib.Core.Bool.{true, false, not, _&&_}
 use mathlib.Core.List.{[], _∷_}
 use native.Mathlib.Omega.{arith}
 use lib.Dec.{ltb, eqb}
-use borrow.Author.Tests.{ltb-true, ltb-false, lt-ltb, le-ltb, eq-eqb, ne-eqb, eqb-false, not-false}
+use borrow.Author.Tests.{ltb-true, ltb-false, lt-ltb, eq-eqb, ne-eqb, eqb-false, not-false}
 use Rattle.rules.specs.declared.message.Message.{Message}
 use Rattle.rules.specs.Limits.{mostValue, mostIntake}
 use Rattle.rules.specs.Refusals.{when, answerOf}
-use Rattle.rules.specs.Rules.{fill}
 use Rattle.rules.specs.Stock.{amountSound}
 use Rattle.rules.proofs.Below.{both-hold}
 use Rattle.rules.proofs.Refusing.{passed}
-use Rattle.station.specs.declared.station.Station.{Station}
-use Rattle.station.specs.Side.{sideFor, putSide}
-use Rattle.station.specs.Sound.{stationSound}
 use Rattle.station.specs.Steps.{showAnswer, messageFor, receiveAnswer, receiveOf}
 use Rattle.station.proofs.Keeps.{stock-sound, message-sound, receive-keeps}
 use Rattle.station.proofs.Parts.{station-parts}
@@ -32,7 +28,7 @@ use Rattle.table.specs.Sound.{placeSound, tableSound}
 use Rattle.table.specs.Stepped.{answeredStep}
 use Rattle.steps.specs.Steps.{delivered, overfills, stepRefusals, stepDone, stepOf}
 use Rattle.steps.specs.Running.{askedStep}
-use Rattle.table.proofs.Tables.{Seated, Waits, SoundTable, table-parts, table-whole, waits}
+use Rattle.table.proofs.Tables.{Waits, SoundTable, table-parts, table-whole, waits}
 use Rattle.table.proofs.Puts.{seat-of, moved, place-whole, put-station, put-place}
 
 -- what a send that is not refused has passed

@@ -21,7 +21,7 @@ use Rattle.steps.specs.declared.asked.Asked.the-variants.{NoStep, OneSte
 use Rattle.steps.specs.declared.asked.Step.the-variants.{Add, Draw, Send, Deliver, Lose}
 use Rattle.pool.specs.Pool.{mostPlaces}
 use Rattle.steps.specs.Looking.{below, placeLookedAt, lookedAt, endsOf, seatLookedAt}
-use Rattle.steps.specs.Planning.{planned, stockDone, placePlan, messageBy, sendAnswer, actedIn, sideDone, sidePlan, placeAnswer, deliverBy, loseBy, planAt, InPool}
+use Rattle.steps.specs.Planning.{planned, stockDone, placePlan, messageBy, sendAnswer, actedIn, sideDone, placeAnswer, deliverBy, loseBy, planAt, InPool}
 
 below-lt : (n limit : ℕ) → 0 < limit → below n limit < limit
 below-lt n limit h = by (ltb n limit) refl

@@ -1,13 +1,13 @@
 -- What a run promises, and that a run of one step is that step. Assumes nothing.
-use Prim.Native.Nat.{ℕ, zero, suc, _+_, _<_, _≤_, _/_, _%_, min}
-use mathlib.Core.Path.{_≡_, refl, sym, _∙_}
+use Prim.Native.Nat.{ℕ, zero, suc, _<_, _%_}
+use mathlib.Core.Path.{_≡_, refl, _∙_}
 use mathlib.Core.Bool.{Bool, true, false, cond, _&&_}
 use mathlib.Core.List.{List, [], _∷_}
 use native.Mathlib.Nat.{mod-eq-of-lt}
 use native.Mathlib.Omega.{arith}
 use borrow.Author.Tests.{ltb-true}
 use lib.Dec.{ltb}
-use lib.ListN.{length, getD, replicate}
+use lib.ListN.{getD, replicate}
 use lib.Seq.{sets}
 use Rattle.rules.specs.declared.report.Report.{Report}
 use Rattle.rules.specs.Refusals.{Refusal, answerOf}
@@ -16,7 +16,6 @@ use Rattle.rules.proofs.Below.{both-hold}
 use Rattle.pool.specs.declared.places.Waiting.{Waiting}
 use Rattle.pool.specs.declared.places.Waiting.the-variants.{Empty, One}
 use Rattle.steps.specs.declared.running.Ran.{Ran}
-use Rattle.steps.specs.declared.asked.Asked.the-variants.{OneStep}
 use Rattle.steps.specs.declared.asked.Step.{Step}
 use Rattle.steps.specs.declared.asked.Step.the-variants.{Add, Draw, Send, Deliver, Lose}
 use Rattle.table.specs.declared.stepped.Stepped.{Stepped}
@@ -25,7 +24,7 @@ use Rattle.table.specs.Table.{waitingAt}
 use Rattle.table.specs.Sound.{tableSound}
 use Rattle.table.specs.Stepped.{answeredStep}
 use Rattle.steps.specs.Steps.{delivered, stepRefusals, stepDone, stepOf}
-use Rattle.steps.specs.Running.{numbersFor, stepNumbers, tells, askedIn, toldBy, leftBy, stepsIn, ranOf, toldOf, Runs, reportOf, ranBy}
+use Rattle.steps.specs.Running.{stepNumbers, tells, askedIn, toldBy, leftBy, stepsIn, ranOf, toldOf, Runs, reportOf, ranBy}
 
 pub ran-refused : (t : Table) (codes told : List ℕ) → tableSound t ≡ false → Runs t codes told (record { answer = 1; result = 0; table = t }) told
 unfolding ranOf toldOf

@@ -11,7 +11,6 @@ use Rattle.rules.specs.declared.held.HeldSlot.the-variants.{NoSlot, OneSlot}
 use Rattle.rules.specs.declared.held.HeldToken.{HeldToken}
 use Rattle.rules.specs.declared.held.HeldToken.the-variants.{NoToken, OneToken}
 use Rattle.rules.specs.declared.message.Message.{Message}
-use Rattle.rules.specs.declared.rules.Ruled.{Ruled}
 use Rattle.rules.specs.declared.side.Side.{Side}
 use Rattle.rules.specs.Clocks.{destinationNext}
 use Rattle.rules.specs.Half.{halfAbove}

@@ -10,7 +10,6 @@ use lib.ListN.{length, getD, set, drop}
 use lib.Seq.{sets, drop-nil, getD-drop, length-sets}
 use Rattle.rules.specs.declared.side.Side.{Side}
 use Rattle.rules.proofs.Stores.{then}
-use Rattle.station.specs.declared.station.Station.{Station}
 use Rattle.station.specs.Side.{sideFor}
 use Rattle.station.specs.Steps.{putStock}
 use Rattle.steps.specs.declared.cells.Cells.{Cells}

@@ -4,7 +4,6 @@ use Prim.Native.Nat.{ℕ}
 use mathlib.Core.Bool.{Bool, true, not, _&&_, _||_}
 use lib.Dec.{ltb, leb, eqb}
 use Rattle.station.specs.declared.station.Station.{Station}
-use Rattle.rules.specs.declared.message.Message.{Message}
 use Rattle.rules.specs.Answers.{notSound}
 use Rattle.rules.specs.Limits.{mostStations}
 use Rattle.rules.specs.Refusals.{Refusal, when}

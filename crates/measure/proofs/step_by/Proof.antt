@@ -1,4 +1,4 @@
-use borrow.Author.Tests.{eq-eqb, ne-eqb}
+use borrow.Author.Tests.{ne-eqb}
 use Rattle.measure.proofs.step_by.Statement.{statement}
 use Rattle.measure.proofs.step_by.Tie as tie
 

@@ -1,4 +1,4 @@
-use mathlib.Core.Path.{ap, _∙_}
+use mathlib.Core.Path.{ap}
 use native.Mathlib.Omega.{arith}
 use Rattle.rules.specs.declared.rules.Ruled.{Ruled}
 use Rattle.rules.proofs.InOrder.{taken}

@@ -1,7 +1,7 @@
 use mathlib.Core.Path.{_≡_, ap, sym, _∙_}
 use mathlib.Core.Bool.{true, false}
 use lib.Dec.{leb, ltb}
-use borrow.Author.Tests.{not-true, not-false, leb-true, lt-ltb, le-ltb}
+use borrow.Author.Tests.{not-true, not-false, lt-ltb, le-ltb}
 use Rattle.rules.specs.declared.rules.Ruled.{Ruled}
 use Rattle.rules.specs.Limits.{mostValue}
 use Rattle.rules.specs.Taking.{messageSmall}

@@ -1,4 +1,4 @@
-use mathlib.Core.Path.{_≡_, ap, sym, _∙_}
+use mathlib.Core.Path.{ap, sym, _∙_}
 use native.Mathlib.Omega.{arith}
 use Rattle.rules.specs.declared.side.Side.{Side}
 use Rattle.rules.specs.declared.taking.Taken.{Taken}
