@@ -111,7 +111,7 @@ fn try_sender(words: &[u8], s: Station, from: u8, size: usize) {
     receive_part(words, s, &buffer, size);
 }
 
-fn stations() {
+fn fresh_stations() {
     try_fresh(b"fresh 0 of 0", 0, 0);
     try_fresh(b"fresh 0 of 1", 0, 1);
     try_fresh(b"fresh 0 of 2", 0, 2);
@@ -119,25 +119,32 @@ fn stations() {
     try_fresh(b"fresh 16 of 16", 16, 16);
     try_fresh(b"fresh 0 of 17", 0, 17);
     try_fresh(b"fresh largest of largest", LARGEST, LARGEST);
-    let r = station::fresh(1, 2);
-    let s = r.station;
+}
+
+fn adds(s: Station) {
     try_add(b"add 0", s, 0);
     try_add(b"add 1", s, 1);
     try_add(b"add 1000000000", s, 1000000000);
     try_add(b"add 1000000001", s, 1000000001);
     try_add(b"add largest", s, LARGEST);
-    let full = station::add(s, 1000000000);
-    let rich = full.station;
+}
+
+// A station at its intake's limit.
+fn draws(rich: Station) {
     try_add(b"add past the intake", rich, 1);
     try_draw(b"draw 0", rich, 0);
     try_draw(b"draw 1000000000", rich, 1000000000);
-    try_draw(b"draw from nothing", s, 1);
-    try_draw(b"draw largest", rich, LARGEST);
+}
+
+fn no_station() {
     let none = station::fresh(0, 0);
     let unsound = none.station;
     try_add(b"add at no station", unsound, 1);
     try_draw(b"draw at no station", unsound, 1);
     try_message(b"message of no station", unsound, 1, 80);
+}
+
+fn messages(s: Station) {
     try_message(b"message for 0", s, 0, 80);
     try_message(b"message for itself", s, 1, 80);
     try_message(b"message for 2 of 2", s, 2, 80);
@@ -145,6 +152,19 @@ fn stations() {
     try_message(b"message into 30 bytes", s, 0, 30);
     try_message(b"message into 29 bytes", s, 0, 29);
     try_message(b"message into no bytes", s, 0, 0);
+}
+
+fn stations() {
+    let r = station::fresh(1, 2);
+    let s = r.station;
+    adds(s);
+    let full = station::add(s, 1000000000);
+    let rich = full.station;
+    draws(rich);
+    try_draw(b"draw from nothing", s, 1);
+    try_draw(b"draw largest", rich, LARGEST);
+    no_station();
+    messages(s);
 }
 
 fn records() {
@@ -187,87 +207,101 @@ fn go(words: &[u8], t: Table, s: Step) -> Table {
     r.table
 }
 
-// The script that the rules work out by hand.
-fn worked() {
-    let made = table::fresh_table(2);
-    let a = go(b"add 0 10", made.table, Step::Add(0, 10));
+// The script that the rules work out by hand: until a token is made, and from then on.
+fn asked_for(t: Table) -> Table {
+    let a = go(b"add 0 10", t, Step::Add(0, 10));
     let b = go(b"send 0 1", a, Step::Send(0, 1));
     let c = go(b"deliver 0", b, Step::Deliver(0));
     let d = go(b"send 1 0", c, Step::Send(1, 0));
-    let e = go(b"deliver 1", d, Step::Deliver(1));
-    let f = go(b"draw 0 7", e, Step::Draw(0, 7));
+    go(b"deliver 1", d, Step::Deliver(1))
+}
+
+fn landed(t: Table) -> Table {
+    let f = go(b"draw 0 7", t, Step::Draw(0, 7));
     let g = go(b"send 0 1", f, Step::Send(0, 1));
     let h = go(b"deliver 2", g, Step::Deliver(2));
     let i = go(b"deliver 2", h, Step::Deliver(2));
     let k = go(b"lose 2", i, Step::Lose(2));
-    let l = go(b"send 0 0", k, Step::Send(0, 0));
-    let way = table::on_the_way(l);
+    go(b"send 0 0", k, Step::Send(0, 0))
+}
+
+fn worked() {
+    let made = table::fresh_table(2);
+    let last = landed(asked_for(made.table));
+    let way = table::on_the_way(last);
     tell(b"on the way", way.answer, way.result);
-    let values = table::at_stations(l);
+    let values = table::at_stations(last);
     tell(b"at stations", values.answer, values.result);
 }
 
-fn edges() {
-    let none = table::fresh_table(1);
-    tell(b"table of 1", none.answer, none.result);
-    let many = table::fresh_table(17);
-    tell(b"table of 17", many.answer, many.result);
-    let made = table::fresh_table(16);
-    let t = made.table;
-    tell(b"table of 16", made.answer, made.result);
+fn try_table(words: &[u8], count: u64) -> Table {
+    let made = table::fresh_table(count);
+    tell(words, made.answer, made.result);
+    made.table
+}
+
+fn numbers_too_large(t: Table) {
     go(b"add at 16", t, Step::Add(16, 1));
     go(b"add at 4294967296", t, Step::Add(4294967296, 1));
     go(b"add 9999999999", t, Step::Add(0, 9999999999));
     go(b"draw at largest", t, Step::Draw(LARGEST, 1));
     go(b"send to largest", t, Step::Send(0, LARGEST));
+}
+
+fn places(t: Table) {
     go(b"deliver 0", t, Step::Deliver(0));
     go(b"deliver 64", t, Step::Deliver(64));
     go(b"deliver 4294967296", t, Step::Deliver(4294967296));
     go(b"lose 63", t, Step::Lose(63));
     go(b"lose largest", t, Step::Lose(LARGEST));
-    go(b"add in no table", none.table, Step::Add(0, 1));
-    let sum = table::on_the_way(none.table);
+}
+
+fn edges() {
+    let none = try_table(b"table of 1", 1);
+    try_table(b"table of 17", 17);
+    let t = try_table(b"table of 16", 16);
+    numbers_too_large(t);
+    places(t);
+    go(b"add in no table", none, Step::Add(0, 1));
+    let sum = table::on_the_way(none);
     tell(b"on the way in no table", sum.answer, sum.result);
+}
+
+// One step on a pool, told; the pool after it.
+fn put(words: &[u8], pool: [Place; 64], m: Message) -> [Place; 64] {
+    let r = pool::lent::send_value(pool, m);
+    let told = r.told;
+    tell(words, told.answer, told.result);
+    r.pool
+}
+
+fn clear(words: &[u8], pool: [Place; 64], p: u64) -> [Place; 64] {
+    let r = pool::lent::lose_value(pool, p);
+    let told = r.told;
+    tell(words, told.answer, told.result);
+    r.pool
 }
 
 // The pool by itself.
 fn pools() {
+    let m = full_message();
     let empty = Place {
         waiting: Waiting::Empty,
     };
-    let m = full_message();
-    let first = pool::lent::send_value([empty; 64], m);
-    let told = first.told;
-    tell(b"send into an empty pool", told.answer, told.result);
-    let after_first = first.pool;
-    let second = pool::lent::send_value(after_first, m);
-    let then = second.told;
-    tell(b"send again", then.answer, then.result);
-    let after_second = second.pool;
-    let third = pool::lent::lose_value(after_second, 0);
-    let lost = third.told;
-    tell(b"lose place 0", lost.answer, lost.result);
-    let after_third = third.pool;
-    let fourth = pool::lent::send_value(after_third, m);
-    let again = fourth.told;
-    tell(b"send into the freed place", again.answer, again.result);
-    let after_fourth = fourth.pool;
-    let fifth = pool::lent::lose_value(after_fourth, 2);
-    let nothing = fifth.told;
-    tell(b"lose an empty place", nothing.answer, nothing.result);
-    let after_fifth = fifth.pool;
-    let sixth = pool::lent::lose_value(after_fifth, 64);
-    let beyond = sixth.told;
-    tell(b"lose place 64", beyond.answer, beyond.result);
+    let a = put(b"send into an empty pool", [empty; 64], m);
+    let b = put(b"send again", a, m);
+    let c = clear(b"lose place 0", b, 0);
+    let d = put(b"send into the freed place", c, m);
+    let e = clear(b"lose an empty place", d, 2);
+    clear(b"lose place 64", e, 64);
     let taken = Place {
         waiting: Waiting::One(m),
     };
-    let last = pool::lent::send_value([taken; 64], m);
-    let full = last.told;
-    tell(b"send into a full pool", full.answer, full.result);
+    put(b"send into a full pool", [taken; 64], m);
 }
 
 fn main() {
+    fresh_stations();
     stations();
     records();
     received();
