@@ -11,13 +11,11 @@ use std::io::Write;
 use std::process::{Command, Stdio};
 use std::time::Instant;
 
-/// How often each is timed; the least time counts, since anything else on the machine only adds.
-const TURNS: usize = 21;
-
-/// The least times of both, in nanoseconds for each of n operations.
-fn timed(n: usize, mut first: impl FnMut(), mut second: impl FnMut()) -> (f64, f64) {
+/// The least times of both, in nanoseconds for each of n operations. Each is timed in every turn;
+/// the least counts, since anything else on the machine only adds.
+fn timed(turns: usize, n: usize, mut first: impl FnMut(), mut second: impl FnMut()) -> (f64, f64) {
     let mut least = (f64::MAX, f64::MAX);
-    for _ in 0..TURNS {
+    for _ in 0..turns {
         let start = Instant::now();
         first();
         least.0 = least.0.min(start.elapsed().as_nanos() as f64);
@@ -32,7 +30,7 @@ fn print_row(name: &str, times: (f64, f64)) {
     println!("| {name} | {:.0} | {:.0} | {:.2} |", times.0, times.1, times.0 / times.1);
 }
 
-fn time_records(random: &mut Random) {
+fn time_records(turns: usize, random: &mut Random) {
     let all = records(random, 4096);
     let mut out = [0u8; 80];
     for (bytes, message) in &all {
@@ -45,6 +43,7 @@ fn time_records(random: &mut Random) {
     let mut message = [0u64; 13];
     let mut other = [0u64; 13];
     let times = timed(
+        turns,
         all.len(),
         || {
             all.iter().for_each(|(bytes, _)| {
@@ -60,6 +59,7 @@ fn time_records(random: &mut Random) {
     print_row("a record read", times);
     let mut second = [0u8; 80];
     let times = timed(
+        turns,
         all.len(),
         || {
             all.iter().for_each(|(_, m)| {
@@ -75,7 +75,7 @@ fn time_records(random: &mut Random) {
     print_row("a record written", times);
 }
 
-fn time_receiving(random: &mut Random) {
+fn time_receiving(turns: usize, random: &mut Random) {
     let all = stations(random, 512);
     for (station, bytes) in &all {
         let mut both = [*station, *station];
@@ -85,6 +85,7 @@ fn time_receiving(random: &mut Random) {
     let mut first: Vec<_> = all.clone();
     let mut second = all.clone();
     let times = timed(
+        turns,
         all.len(),
         || {
             first.iter_mut().for_each(|(s, bytes)| {
@@ -101,23 +102,25 @@ fn time_receiving(random: &mut Random) {
 }
 
 /// Runs as short as a script makes them, and longer: what a step costs depends on it.
-fn time_steps(random: &mut Random) {
+fn time_steps(turns: usize, random: &mut Random) {
     for count in [2, 4, 8, 16] {
         for (length, name) in [(1024, "1,024"), (4000, "4,000"), (20_000, "20,000")] {
             let codes = steps(random, count, length);
-            time_run(count, &codes, &format!("a step in a run of {name} on a table of {count}"));
+            let name = format!("a step in a run of {name} on a table of {count}");
+            time_run(turns, count, &codes, &name);
         }
-        time_by_value(count, &steps(random, count, 4000));
+        time_by_value(turns, count, &steps(random, count, 4000));
     }
 }
 
-fn time_run(count: u64, codes: &[u64], name: &str) {
+fn time_run(turns: usize, count: u64, codes: &[u64], name: &str) {
     let room = codes.len() / 3 * 5;
     let mut told = [vec![0u64; room], vec![0u64; room]];
     let done = [proved::run(count, codes, &mut told[0]), table::run(count, codes, &mut told[1])];
     assert_eq!((done[0], &told[0]), (done[1], &told[1]));
     let [first, second] = &mut told;
     let times = timed(
+        turns,
         codes.len() / 3,
         || {
             black_box(proved::run(count, black_box(codes), first));
@@ -129,9 +132,10 @@ fn time_run(count: u64, codes: &[u64], name: &str) {
     print_row(name, times);
 }
 
-fn time_by_value(count: u64, codes: &[u64]) {
+fn time_by_value(turns: usize, count: u64, codes: &[u64]) {
     assert_eq!(proved::last_result(count, codes), table::last_result(count, codes));
     let times = timed(
+        turns,
         codes.len() / 3,
         || {
             black_box(proved::last_result(count, black_box(codes)));
@@ -158,11 +162,12 @@ fn run(program: &str, script: &str) -> Vec<u8> {
     output.stdout
 }
 
-fn time_scripts(random: &mut Random, bench: &str, by_hand: &str) {
+fn time_scripts(turns: usize, random: &mut Random, bench: &str, by_hand: &str) {
     for count in [2, 4, 16] {
         let script = script(random, count, 65_000);
         assert!(run(bench, &script) == run(by_hand, &script), "both print the same");
         let times = timed(
+            turns,
             script.lines().count(),
             || drop(run(bench, &script)),
             || drop(run(by_hand, &script)),
@@ -173,16 +178,17 @@ fn time_scripts(random: &mut Random, bench: &str, by_hand: &str) {
 
 fn main() {
     let words: Vec<String> = std::env::args().collect();
-    let [_, bench, by_hand] = &words[..] else {
-        eprintln!("usage: speed PATH-OF-BENCH PATH-OF-BY-HAND");
+    let turns = words.get(3).and_then(|turns| turns.parse().ok());
+    let ([_, bench, by_hand, _], Some(turns)) = (&words[..], turns) else {
+        eprintln!("usage: speed PATH-OF-BENCH PATH-OF-BY-HAND TURNS");
         std::process::exit(2);
     };
     let mut random = Random(20_261_115);
     println!("| operation | proved, ns | by hand, ns | ratio |");
     println!("|---|---|---|---|");
-    time_records(&mut random);
-    time_receiving(&mut random);
-    time_steps(&mut random);
-    time_scripts(&mut random, bench, by_hand);
-    println!("\nThe least of {TURNS} turns each, both in one run on the same input. Buffers were written to before and not cleared between calls.");
+    time_records(turns, &mut random);
+    time_receiving(turns, &mut random);
+    time_steps(turns, &mut random);
+    time_scripts(turns, &mut random, bench, by_hand);
+    println!("\nThe least of {turns} turn(s) each, both in one run on the same input. Buffers were written to before and not cleared between calls.");
 }
