@@ -94,6 +94,7 @@ settled =
       steps·step = λ t step. given refl;
       steps·run = λ t codes told. record { promised = refl; settled = λ κ. running _ _ _ };
       steps·numbers-for = λ asked. given refl;
+      steps·asked-by = λ kind a b. given refl;
       table·on-the-way = λ t. given refl;
       table·at-stations = λ t. given refl;
       measure·qm-run = λ count codes told. record { promised = refl; settled = λ κ. running-fresh _ _ _ };

@@ -11,6 +11,7 @@
 -- Not listed: `station::blank_station`, `rules::no_message`. They make what they are told to.
 -- Not listed: `rules::no_report`. It makes what it is told to.
 -- Not listed: `rules::rules_of`, `steps::numbers_for`. They tell what they are given in numbers.
+-- Not listed: `steps::asked_by`. It tells what numbers name.
 -- Not listed: `measure::qm_run`, `measure::qm_last_result`. They have no answer: runs to be timed.
 use Prim.Native.Nat.{ℕ}
 use mathlib.Core.Path.{_≡_}

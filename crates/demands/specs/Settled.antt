@@ -34,7 +34,7 @@ use Rattle.pool.specs.declared.places.Place.{Place}
 use Rattle.table.specs.declared.table.Table.{Table}
 use Rattle.table.specs.Fresh.{freshOf as freshTableOf}
 use Rattle.pool.specs.Lent.{SendsIn, LosesIn, sentValue, lostValue}
-use Rattle.steps.specs.Running.{Runs, numbersFor}
+use Rattle.steps.specs.Running.{Runs, numbersFor, askedBy}
 use Rattle.table.specs.Sound.{tableSound}
 use Rattle.steps.specs.Steps.{stepOf}
 use Rattle.table.specs.Way.{wayAsked, stationsAsked}
@@ -162,6 +162,9 @@ pub record Settled : Type 2 where
   pub steps·numbers-for : (asked : Asked)
       → Settles Rattle.steps.proofs.asked.numbers_for.ended (λ M 𝓤. Rattle.steps.proofs.asked.numbers_for.clauses 𝓤)
       (λ κ. (asked, tt)) (λ κ r. r ≡ numbersFor asked)
+  pub steps·asked-by : (kind a b : ℕ)
+      → Settles Rattle.steps.proofs.asked.asked_by.ended (λ M 𝓤. Rattle.steps.proofs.asked.asked_by.clauses 𝓤)
+      (λ κ. (kind, (a, (b, tt)))) (λ κ r. r ≡ askedBy kind a b)
   pub table·on-the-way : (t : Table)
       → Settles Rattle.table.proofs.way.on_the_way.ended (λ M 𝓤. Rattle.table.proofs.way.on_the_way.clauses 𝓤)
       (λ κ. (t, tt)) (λ κ r. r ≡ wayAsked t)

@@ -7,7 +7,7 @@ use Rattle.steps.specs.declared.asked.Step.the-variants.{Deliver}
 use Rattle.table.specs.declared.table.Table.{Table}
 use Rattle.table.specs.Table.{stationAt}
 use Rattle.table.specs.Fresh.{freshOf}
-use Rattle.steps.specs.Running.{numbersFor, ranOf, toldOf}
+use Rattle.steps.specs.Running.{numbersFor, askedBy, ranOf, toldOf}
 use Rattle.table.specs.Sound.{tableSound}
 use Rattle.measure.specs.Steps.{lastResultOf}
 use Rattle.demands.specs.Wrong.{Wrong, truth}
@@ -51,10 +51,14 @@ wrongParts =
     -- numbers_for: names a delivery as a loss; names what is no step as an add
     ∷ record { promised = numbersFor (OneStep (Deliver 3)); wrong = 4 ∷ 3 ∷ 0 ∷ [] }
     ∷ record { promised = numbersFor NoStep; wrong = 0 ∷ 0 ∷ 0 ∷ [] }
+    -- asked_by: reads a loss for a delivery; takes a number above 4 for a loss
+    ∷ record { promised = numbersFor (askedBy 3 7 9); wrong = 4 ∷ 7 ∷ 0 ∷ [] }
+    ∷ record { promised = numbersFor (askedBy 5 7 9); wrong = 4 ∷ 7 ∷ 0 ∷ [] }
     -- qm_run: tells the last result; tells nothing of the steps
     ∷ record { promised = ranFresh adds (sevens 10); wrong = 11 ∷ 0 ∷ 5 ∷ 0 ∷ 0 ∷ 0 ∷ 0 ∷ 11 ∷ 0 ∷ 0 ∷ 0 ∷ [] }
     ∷ record { promised = ranFresh adds (sevens 10); wrong = 2 ∷ sevens 10 }
-    -- qm_last_result: the first result; no step done
+    -- qm_last_result: the first result; no step done; passes over numbers that name no step
     ∷ record { promised = lastResultOf 2 adds ∷ []; wrong = 5 ∷ [] }
     ∷ record { promised = lastResultOf 2 (0 ∷ 0 ∷ 5 ∷ []) ∷ []; wrong = 0 ∷ [] }
+    ∷ record { promised = lastResultOf 2 (0 ∷ 0 ∷ 5 ∷ 5 ∷ 0 ∷ 0 ∷ []) ∷ []; wrong = 5 ∷ [] }
     ∷ []

@@ -1,1 +1,1 @@
-pub mod Threes
+pub mod Lasts

@@ -1,30 +1,21 @@
--- Steps given as numbers, three for each: which step, and its two numbers.
-use Prim.Native.Nat.{ℕ}
-use mathlib.Core.Bool.{cond}
+-- Steps given as numbers, from a fresh table on.
+use Prim.Native.Nat.{ℕ, _/_}
 use mathlib.Core.List.{List, [], _∷_}
-use lib.Dec.{eqb}
 use mathlib.Core.Path.{_≡_}
-use Rattle.table.specs.Fresh.{freshOf}
-use Rattle.steps.specs.Running.{ranOf, toldOf}
-use Rattle.steps.specs.Steps.{stepOf}
-use Rattle.steps.specs.declared.asked.Step.{Step}
-use Rattle.steps.specs.declared.asked.Step.the-variants.{Add, Draw, Send, Deliver, Lose}
+use lib.ListN.{length}
 use Rattle.table.specs.declared.table.Table.{Table}
+use Rattle.table.specs.Fresh.{freshOf}
+use Rattle.steps.specs.declared.asked.Asked.{Asked}
+use Rattle.steps.specs.Running.{askedStep, askedIn, ranOf, toldOf}
 
--- 0 add, 1 draw, 2 send, 3 deliver, any other lose
-abbrev pub stepBy : ℕ → ℕ → ℕ → Step
-stepBy kind a b = cond (eqb kind 0) (Add a b) (cond (eqb kind 1) (Draw a b) (cond (eqb kind 2) (Send a b) (cond (eqb kind 3) (Deliver a) (Lose a))))
-
--- the last result of all these steps from a table on; numbers left over are no step
-unfoldable pub lastResult : Table → ℕ → List ℕ → ℕ
+-- the last result of what is asked for, one after the other
+unfoldable pub lastResult : Table → ℕ → List Asked → ℕ
 lastResult t last [] = last
-lastResult t last (kind ∷ []) = last
-lastResult t last (kind ∷ a ∷ []) = last
-lastResult t last (kind ∷ a ∷ b ∷ rest) = let s = stepOf t (stepBy kind a b) in lastResult (s .table) (s .result) rest
+lastResult t last (x ∷ xs) = let s = askedStep t x in lastResult (s .table) (s .result) xs
 
--- from a fresh table on
+-- of all whole threes of numbers
 abbrev pub lastResultOf : ℕ → List ℕ → ℕ
-lastResultOf count codes = lastResult (freshOf count .table) 0 codes
+lastResultOf count codes = lastResult (freshOf count .table) 0 (askedIn (length codes / 3) codes)
 
 -- a run in one call: how many steps were done, and what they told
 pub record RunsFresh (count : ℕ) (codes told : List ℕ) (r : ℕ) (later : List ℕ) : Type 0 where

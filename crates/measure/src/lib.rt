@@ -1,26 +1,7 @@
 // Steps from a fresh table on, for benchmarks from Rust: the table stays on this side.
 ghost use mathlib.Core.Path.{_≡_};
-ghost use Rattle.measure.specs.Steps.{stepBy, lastResultOf, RunsFresh};
-use steps::asked::Step;
-
-// A step of numbers.
-fn step_by(kind: u64, a: u64, b: u64) -> Step
-    ensures { λ r. ⌜ r ≡ stepBy kind a b ⌝ }
-{
-    if kind == 0 {
-        return Step::Add(a, b);
-    }
-    if kind == 1 {
-        return Step::Draw(a, b);
-    }
-    if kind == 2 {
-        return Step::Send(a, b);
-    }
-    if kind == 3 {
-        return Step::Deliver(a);
-    }
-    Step::Lose(a)
-}
+ghost use Rattle.measure.specs.Steps.{lastResultOf, RunsFresh};
+use steps::asked::Asked;
 
 // A run in one call: how many steps were done.
 #[no_mangle]
@@ -41,12 +22,21 @@ pub extern "C" fn qm_last_result(count: u64, codes: &[u64]) -> u64
     let made = table::fresh_table(count);
     let mut t = made.table;
     let mut last: u64 = 0;
-    let mut at: usize = 0;
-    while 3 <= codes.len() - at {
-        let done = steps::step(t, step_by(codes[at], codes[at + 1], codes[at + 2]));
-        t = done.table;
-        last = done.result;
-        at = at + 3;
+    let whole = codes.len() / 3;
+    let mut n: usize = 0;
+    while n < whole {
+        let asked = steps::asked_by(codes[3 * n], codes[3 * n + 1], codes[3 * n + 2]);
+        match asked {
+            Asked::NoStep => {
+                last = 0;
+            }
+            Asked::OneStep(step) => {
+                let done = steps::step(t, step);
+                t = done.table;
+                last = done.result;
+            }
+        }
+        n = n + 1;
     }
     last
 }

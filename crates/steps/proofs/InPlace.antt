@@ -24,7 +24,7 @@ use Rattle.rules.proofs.Refusing.{passed}
 use Rattle.station.specs.Side.{sideFor}
 use Rattle.station.specs.Sound.{tokenSound}
 use Rattle.station.specs.Steps.{messageFor}
-use Rattle.station.proofs.Parts.{station-parts, message-parts}
+use Rattle.station.proofs.Parts.{SoundStation, station-parts, message-parts}
 use Rattle.steps.specs.declared.planning.Change.the-variants.{AtSide}
 use Rattle.steps.specs.declared.planning.Plan.{Plan}
 use Rattle.pool.specs.declared.places.Waiting.{Waiting}
@@ -92,41 +92,43 @@ module _ (t : Table) (sound : tableSound t ≡ true) where
   index : (k : ℕ) → k < t .count → ltb k mostStations ≡ true
   index k h = lt-ltb k mostStations (omega (arith, whole .most))
 
+  -- what holds where k is not below the count, and at the sound station k where it is, holds of
+  -- what is looked at
+  looked : (k : ℕ) (P : ℕ → Type 0) → (ltb k (t .count) ≡ false → P (below k mostStations))
+      → (ltb k (t .count) ≡ true → SoundStation (stationAt t k) → P k) → P (below k mostStations)
+  looked k P past there = by (ltb k (t .count)) refl
+    where
+      by : (b : Bool) → ltb k (t .count) ≡ b → P (below k mostStations)
+      by false e = past e
+      by true e = let h = ltb-true k (t .count) e in rw (index k h) (there e (station-parts (stationAt t k) (seat-of whole k h .sound)))
+
   add-placed : (k amount j : ℕ) → let i = below k mostStations in let s = stationAt t i in
       stepped t i j (stockPlan k (t .count) (addedTo (s .value) (s .intake) amount)) ≡ stepOf t (Add k amount)
   unfolding stepOf addedTo
-  add-placed k amount j = by (ltb k (t .count)) refl
-    where
-      by : (b : Bool) → ltb k (t .count) ≡ b → let i = below k mostStations in let s = stationAt t i in
-          stepped t i j (stockPlan k (t .count) (addedTo (s .value) (s .intake) amount)) ≡ stepOf t (Add k amount)
-      by false e = rw (sound, e)
-      by true e =
-          let h = ltb-true k (t .count) e in
-          let s = stationAt t k in
-          let w = station-parts s (seat-of whole k h .sound) in
-          rw (sound, e, index k h, le-leb _ _ (w .value), le-leb _ _ (w .intake))
-          (stock-by t k j
-          (answerOf
-          (when (not (amountSound amount)) badAmount
-          ∷ when (ltb mostIntake (s .intake + amount)) intakeLimit
-          ∷ when (ltb mostValue (s .value + amount)) valueLimit
-          ∷ []))
-          (s .value) (s .intake) (addDone (s .value) (s .intake) amount) refl)
+  add-placed k amount j =
+      looked k (λ i. let s = stationAt t i in stepped t i j (stockPlan k (t .count) (addedTo (s .value) (s .intake) amount)) ≡ stepOf t (Add k amount))
+      (λ e. rw (sound, e))
+      (λ e w.
+      let s = stationAt t k in
+      rw (sound, e, le-leb _ _ (w .value), le-leb _ _ (w .intake))
+      (stock-by t k j
+      (answerOf
+      (when (not (amountSound amount)) badAmount
+      ∷ when (ltb mostIntake (s .intake + amount)) intakeLimit
+      ∷ when (ltb mostValue (s .value + amount)) valueLimit
+      ∷ []))
+      (s .value) (s .intake) (addDone (s .value) (s .intake) amount) refl))
 
   draw-placed : (k amount j : ℕ) → let i = below k mostStations in let s = stationAt t i in
       stepped t i j (stockPlan k (t .count) (drawnFrom (s .value) (s .intake) amount)) ≡ stepOf t (Draw k amount)
   unfolding stepOf drawnFrom
-  draw-placed k amount j = by (ltb k (t .count)) refl
-    where
-      by : (b : Bool) → ltb k (t .count) ≡ b → let i = below k mostStations in let s = stationAt t i in
-          stepped t i j (stockPlan k (t .count) (drawnFrom (s .value) (s .intake) amount)) ≡ stepOf t (Draw k amount)
-      by false e = rw (sound, e)
-      by true e =
-          let h = ltb-true k (t .count) e in
-          let s = stationAt t k in
-          let w = station-parts s (seat-of whole k h .sound) in
-          rw (sound, e, index k h, le-leb _ _ (w .value), le-leb _ _ (w .intake))
-          (stock-by t k j (answerOf (when (not (amountSound amount)) badAmount ∷ [])) (s .value) (s .intake) (drawDone (s .value) (s .intake) amount) refl)
+  draw-placed k amount j =
+      looked k (λ i. let s = stationAt t i in stepped t i j (stockPlan k (t .count) (drawnFrom (s .value) (s .intake) amount)) ≡ stepOf t (Draw k amount))
+      (λ e. rw (sound, e))
+      (λ e w.
+      let s = stationAt t k in
+      rw (sound, e, le-leb _ _ (w .value), le-leb _ _ (w .intake))
+      (stock-by t k j (answerOf (when (not (amountSound amount)) badAmount ∷ [])) (s .value) (s .intake) (drawDone (s .value) (s .intake) amount) refl))
 
   -- what a send that is not refused has passed
   send-message : (from to p : ℕ) → sendAnswer from to (t .count) p ≡ 0 → let l = lookedAt from to in

@@ -5,6 +5,7 @@ pub mod Held
 pub mod Rests
 pub mod Looks
 pub mod InPlace
+pub mod AskedFrom
 pub mod Turns
 pub mod Ran
 pub mod Kept

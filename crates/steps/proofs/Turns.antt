@@ -1,13 +1,12 @@
 -- One turn of the loop that holds a table: what is still to be done from there gives the whole.
 -- Assumes nothing.
 use Prim.Native.Nat.{ℕ, zero, suc, _+_, _*_, _-_, _<_, _≤_}
-use mathlib.Core.Path.{_≡_, refl, sym, _∙_, ap}
+use mathlib.Core.Path.{_≡_, refl, _∙_, ap}
 use mathlib.Core.Bool.{true}
 use mathlib.Core.List.{List, [], _∷_, _++_}
-use native.Mathlib.Nat.{add-zero, zero-add, suc-add, sub-zero}
 use native.Mathlib.Omega.{arith}
-use lib.ListN.{length, getD, set, drop}
-use lib.Seq.{sets, drop-nil, getD-drop, length-sets}
+use lib.ListN.{length, getD, set}
+use lib.Seq.{sets, length-sets}
 use Rattle.rules.specs.declared.side.Side.{Side}
 use Rattle.rules.proofs.Stores.{then}
 use Rattle.station.specs.Side.{sideFor}
@@ -25,29 +24,9 @@ use Rattle.table.specs.Sound.{tableSound}
 use Rattle.steps.specs.Running.{askedBy, askedStep, tells, askedIn, toldBy, leftBy, ranBy}
 use Rattle.steps.specs.Cells.{cellsOf}
 use Rattle.steps.specs.Planning.{planAt, changed}
+use Rattle.steps.proofs.AskedFrom.{askedFrom, asked-start, asked-on, asked-ended}
 use Rattle.steps.proofs.InPlace.{placed}
 use Rattle.steps.proofs.Kept.{asked-keeps}
-
--- what is left to be asked for past n steps
-abbrev pub askedFrom : List ℕ → ℕ → ℕ → List Asked
-askedFrom codes steps n = askedIn (steps - n) (drop (3 * n) codes)
-
-dropped : {A : Type 0} (m n : ℕ) (l : List A) → drop m (drop n l) ≡ drop (n + m) l
-dropped m zero l = rw zero-add
-dropped m (suc n) [] = drop-nil m ∙ sym (drop-nil (suc n + m))
-dropped m (suc n) (x ∷ xs) = rw suc-add (dropped m n xs)
-
-asked-on : (codes : List ℕ) (steps n : ℕ) → n < steps
-    → askedFrom codes steps n ≡ askedBy (getD codes (3 * n) 0) (getD codes (3 * n + 1) 0) (getD codes (3 * n + 2) 0) ∷ askedFrom codes steps (n + 1)
-unfolding askedIn
-asked-on codes steps n h =
-    let e : steps - n ≡ suc (steps - (n + 1)) = omega arith in
-    let f : 3 * n + 3 ≡ 3 * (n + 1) = omega arith in
-    rw (e, getD-drop (3 * n) codes 0 0, add-zero, getD-drop (3 * n) codes 1 0, getD-drop (3 * n) codes 2 0, dropped 3 (3 * n) codes, f)
-
-asked-ended : (codes : List ℕ) (steps n : ℕ) → steps ≤ n → askedFrom codes steps n ≡ []
-unfolding askedIn
-asked-ended codes steps n h = let e : steps - n ≡ 0 = omega arith in rw e
 
 -- where the loop stands: the table is sound, the flags are those of its pool, the cells those of
 -- its stations, and what is left to do from here gives the whole
@@ -63,7 +42,7 @@ pub record Going (codes told₀ : List ℕ) (steps : ℕ) (t₀ : Table) (told :
 pub set-out : (codes told : List ℕ) (steps : ℕ) {cells : List Cells} {taken : List ℕ} (t : Table) → tableSound t ≡ true → cells ≡ cellsOf (t .stations)
     → taken ≡ flagsOf (t .pool) → Going codes told steps t told t cells taken 0
 set-out codes told steps t e h f =
-    let start : askedFrom codes steps 0 ≡ askedIn steps codes = rw (sub-zero steps) in
+    let start = asked-start codes steps in
     record { count = omega arith; room = refl; sound = e; flags = f; held = h; left = rw start; says = rw start }
 
 module _ {codes told₀ : List ℕ} {steps : ℕ} {t₀ : Table} {told : List ℕ} {t : Table} {cells : List Cells} {taken : List ℕ} {n : ℕ}

@@ -1,6 +1,6 @@
 // What a table can be asked to do, and the numbers that name it.
 ghost use mathlib.Core.Path.{_≡_};
-ghost use Rattle.steps.specs.Running.{numbersFor};
+ghost use Rattle.steps.specs.Running.{askedBy, numbersFor};
 
 // A station and an amount; a sender and a receiver; a place.
 pub enum Step {
@@ -31,4 +31,26 @@ pub fn numbers_for(asked: Asked) -> [u64; 3]
         Step::Deliver(p) => [3, p, 0],
         Step::Lose(p) => [4, p, 0],
     }
+}
+
+// And back: 0 an add, 1 a draw, 2 a send, 3 a delivery, 4 a loss; any other names no step.
+pub fn asked_by(kind: u64, a: u64, b: u64) -> Asked
+    ensures { λ r. ⌜ r ≡ askedBy kind a b ⌝ }
+{
+    if kind == 0 {
+        return Asked::OneStep(Step::Add(a, b));
+    }
+    if kind == 1 {
+        return Asked::OneStep(Step::Draw(a, b));
+    }
+    if kind == 2 {
+        return Asked::OneStep(Step::Send(a, b));
+    }
+    if kind == 3 {
+        return Asked::OneStep(Step::Deliver(a));
+    }
+    if kind == 4 {
+        return Asked::OneStep(Step::Lose(a));
+    }
+    Asked::NoStep
 }

@@ -8,10 +8,9 @@ ghost use lib.Seq.{sets};
 ghost use Rattle.rules.specs.Limits.{mostStations};
 ghost use Rattle.rules.specs.Report.{rulesOf};
 ghost use Rattle.station.specs.Side.{putSide};
-ghost use Rattle.steps.specs.Running.{askedBy, askedIn, ranBy, toldBy, Runs};
+ghost use Rattle.steps.specs.Running.{askedIn, ranBy, toldBy, Runs};
 ghost use Rattle.table.specs.Sound.{tableSound};
-use crate::asked::Asked;
-use crate::asked::Step;
+use crate::asked::asked_by;
 use crate::cells::cells_for;
 use crate::cells::cells_of;
 use crate::cells::side_by;
@@ -39,27 +38,6 @@ pub struct Ran {
     pub answer: u8,
     pub result: u64,
     pub table: Table,
-}
-
-fn asked_by(kind: u64, a: u64, b: u64) -> Asked
-    ensures { λ r. ⌜ r ≡ askedBy kind a b ⌝ }
-{
-    if kind == 0 {
-        return Asked::OneStep(Step::Add(a, b));
-    }
-    if kind == 1 {
-        return Asked::OneStep(Step::Draw(a, b));
-    }
-    if kind == 2 {
-        return Asked::OneStep(Step::Send(a, b));
-    }
-    if kind == 3 {
-        return Asked::OneStep(Step::Deliver(a));
-    }
-    if kind == 4 {
-        return Asked::OneStep(Step::Lose(a));
-    }
-    Asked::NoStep
 }
 
 // A station with another side to station j.

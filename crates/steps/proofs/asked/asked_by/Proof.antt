@@ -1,6 +1,6 @@
 use borrow.Author.Tests.{ne-eqb}
-use Rattle.steps.proofs.running.asked_by.Statement.{statement}
-use Rattle.steps.proofs.running.asked_by.Tie as tie
+use Rattle.steps.proofs.asked.asked_by.Statement.{statement}
+use Rattle.steps.proofs.asked.asked_by.Tie as tie
 
 returns : tie.Need-returns
 returns c = rw (c .if1 .taken)
