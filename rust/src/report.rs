@@ -11,7 +11,7 @@ pub enum Rule {
     DropSlot,
     /// Rule 3: the sender has more by 2 or above, and a slot for half of that is opened.
     OpenSlot,
-    /// Rule 4: the sender's destination clock has passed the token, and the token goes.
+    /// Rule 4: the record's slot, or else its destination clock, has passed the token, which goes.
     DropToken,
     /// Rule 5: the record has a slot for the station as it stands, and a token for it is made.
     MakeToken,

@@ -1,4 +1,5 @@
-//! The layout, numbers in and numbers out, and refusals that leave everything as it was.
+//! The layout, numbers in and numbers out, refusals that leave everything as it was, and a spent
+//! token that goes though a slot is shown.
 
 use crate::ffi;
 use crate::*;
@@ -284,4 +285,20 @@ fn a_report_names_the_rules_that_acted() {
 fn a_report_passes_over_rules_that_are_not_known() {
     let told = ffi::Told { answer: 0, result: 0, rules: 2 + 32 + (1 << 63), opened: 0, made: 0 };
     assert!(Report::from_told(told).rules().eq([Rule::DropSlot]));
+}
+
+#[test]
+fn a_spent_token_goes_for_a_newer_slot() {
+    let mut giver = Station::fresh(0, 2).unwrap();
+    let mut taker = Station::fresh(1, 2).unwrap();
+    giver.add(10).unwrap();
+    let late = giver.record_for(1).unwrap();
+    taker.receive(&late).unwrap();
+    giver.receive(&taker.record_for(0).unwrap()).unwrap();
+    taker.receive(&giver.record_for(1).unwrap()).unwrap();
+    assert_eq!((giver.value(), taker.value()), (5, 5));
+    assert!(taker.receive(&late).unwrap().acted(Rule::OpenSlot));
+    let report = giver.receive(&taker.record_for(0).unwrap()).unwrap();
+    assert!(report.acted(Rule::DropToken) && !report.acted(Rule::MakeToken));
+    assert_eq!((giver.value(), giver.token_for(1)), (5, None));
 }

@@ -1,7 +1,7 @@
 //! The faults that can be planted.
 
-/// The document's "Ways it has been got wrong". One can be planted, to show
-/// that the comparison sees it.
+/// The document's "Ways it has been got wrong", and one that was right before
+/// a request. One can be planted, to show that the comparison sees it.
 #[derive(Clone, Copy, Debug, Default, PartialEq, Eq)]
 pub enum Fault {
     /// The rules as the document has them.
@@ -17,17 +17,29 @@ pub enum Fault {
     Rule3BeforeFill,
     /// "The source clock left standing when q is 0."
     ClockStands,
+    /// Rule 4 as it was before request 2026-01: a message with a slot drops
+    /// no token.
+    NarrowRule4,
 }
 
 impl Fault {
-    /// The five that can be planted.
-    pub const ALL: [Fault; 5] = [
+    /// The six that can be planted.
+    pub const ALL: [Fault; 6] = [
         Fault::FillByOneClock,
         Fault::Rule4WithoutSlot,
         Fault::Rule2First,
         Fault::Rule3BeforeFill,
         Fault::ClockStands,
+        Fault::NarrowRule4,
     ];
+
+    /// Why no script shows the fault; None where one does.
+    pub fn hidden_from_scripts(self) -> Option<&'static str> {
+        (self == Fault::NarrowRule4).then_some(
+            "the token that stays is older than a slot of its receiver: it fills none and is not \
+             on the way, so that values and clocks are the same, and a script prints no more",
+        )
+    }
 
     /// The fault of this name, as in the enum; the case of letters is free.
     pub fn named(name: &str) -> Option<Fault> {

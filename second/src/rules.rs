@@ -113,15 +113,23 @@ impl Taking<'_> {
         self.report.opened = half;
     }
 
-    /// Rule 4. "Drop token. i has a token for j, m has no slot, and m's
-    /// destination clock is above the token's: the token goes."
+    /// Rule 4, with what request 2026-01 adds to it. "Drop token. i has a
+    /// token for j, m has no slot, and m's destination clock is above the
+    /// token's: the token goes." It goes also "when the message has a slot
+    /// for us whose destination clock is above the token's".
     fn drop_token(&mut self) {
-        let looked = self.message.slot.is_none() || self.fault == Fault::Rule4WithoutSlot;
-        if let Some(token) = self.station.tokens[self.peer] {
-            if looked && self.message.destination > token.destination {
-                self.station.tokens[self.peer] = None;
-                self.report.rules[3] = true;
+        let Some(token) = self.station.tokens[self.peer] else {
+            return;
+        };
+        let spent = match self.message.slot {
+            Some(slot) if self.fault != Fault::Rule4WithoutSlot => {
+                self.fault != Fault::NarrowRule4 && slot.destination > token.destination
             }
+            _ => self.message.destination > token.destination,
+        };
+        if spent {
+            self.station.tokens[self.peer] = None;
+            self.report.rules[3] = true;
         }
     }
 

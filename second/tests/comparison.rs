@@ -13,9 +13,10 @@ fn by_scripts(fault: Fault) -> Outcome {
 }
 
 #[test]
-fn scripts_show_each_fault() {
+fn scripts_show_each_fault_that_is_not_hidden_from_them() {
     for fault in Fault::ALL {
-        assert!(matches!(by_scripts(fault), Outcome::Differs(_)), "{fault:?}");
+        let shown = matches!(by_scripts(fault), Outcome::Differs(_));
+        assert_eq!(shown, fault.hidden_from_scripts().is_none(), "{fault:?}");
     }
 }
 

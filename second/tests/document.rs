@@ -187,6 +187,26 @@ fn wrong_rule_4_without_a_look_at_the_slot() {
     assert_eq!(maker.tokens[0], None);
 }
 
+/// A station with source clock 1 and token (0,0) takes a message with this
+/// destination clock and slot: the sum of the rules that acted, and whether
+/// the token goes where rule 4 is narrow.
+fn spent(destination: u64, slot: Option<Held>) -> (u64, bool) {
+    let mut maker = Station { source: 1, ..station(9) };
+    maker.tokens[0] = Some(held(0, 0, 5));
+    let shown = Message { destination, slot, ..message(0) };
+    let mut narrow = maker.clone();
+    narrow.receive_message(&shown, Fault::NarrowRule4);
+    (take(&mut maker, &shown).report.rules_sum(), narrow.tokens[0].is_none())
+}
+
+#[test]
+fn a_token_goes_for_a_newer_slot() {
+    assert_eq!(spent(2, Some(held(0, 1, 3))), (8, false));
+    assert_eq!(spent(2, Some(held(1, 1, 3))), (8 + 16, false));
+    assert_eq!(spent(1, Some(held(0, 0, 3))), (0, false));
+    assert_eq!(spent(1, None), (8, true));
+}
+
 #[test]
 fn clocks_at_their_end_open_and_make_nothing() {
     let mut receiver = Station { destination: LAST_CLOCK, ..station(0) };

@@ -196,7 +196,8 @@ fn take_slot(s: &mut [u64; 134], m: &[u64; 13], slot: usize, told: &mut Told) {
 }
 
 fn take_token(s: &mut [u64; 134], m: &[u64; 13], token: usize, told: &mut Told) {
-    if s[token] == 1 && m[5] == 0 && s[token + 2] < m[4] {
+    let shown = if m[5] == 1 { m[7] } else { m[4] };
+    if s[token] == 1 && s[token + 2] < shown {
         s[token..token + 4].fill(0);
         told.rules |= 8;
     }

@@ -108,7 +108,8 @@ impl Station {
         }
         let opened = self.open_slot(m);
         rules |= u64::from(opened > 0) << 2;
-        if m.slot.is_none() && self.tokens[j].is_some_and(|t| t.destination < m.destination) {
+        let shown = m.slot.map_or(m.destination, |l| l.destination);
+        if self.tokens[j].is_some_and(|t| t.destination < shown) {
             self.tokens[j] = None;
             rules |= 8;
         }

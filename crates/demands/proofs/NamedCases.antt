@@ -1,4 +1,5 @@
--- Every named case, and every case at a bound, gives what it has to give. Assumes nothing.
+-- Every named case, every case at a bound and every case for rule 4 gives what it has to give.
+-- Assumes nothing.
 use mathlib.Core.Path.{_≡_, refl}
 use mathlib.Core.List.{map}
 use Rattle.handshake.specs.Sums.{sumBelow}
@@ -18,6 +19,7 @@ use Rattle.runs.specs.Runs.{logOf}
 use Rattle.demands.specs.Cases.{Case}
 use Rattle.demands.specs.BoundCases.{boundCases}
 use Rattle.demands.specs.NamedCases.{namedCases}
+use Rattle.demands.specs.SpentTokens.{spentTokens}
 
 pub named-cases-hold : map (λ (c : Case). c .gives) namedCases ≡ map (λ (c : Case). c .wanted) namedCases
 unfolding showOf receiveOf takeOf stationSound messageSound allBelow bytesOf big numberAt fieldAt isRecord readAt receiveBytesOf firstFrom tableSound seatsTo freshOf stepOf logOf
@@ -26,3 +28,7 @@ named-cases-hold = refl
 pub bound-cases-hold : map (λ (c : Case). c .gives) boundCases ≡ map (λ (c : Case). c .wanted) boundCases
 unfolding addOf drawOf receiveOf takeOf stationSound messageSound allBelow tableSound seatsTo freshOf stepOf sumBelow
 bound-cases-hold = refl
+
+pub spent-tokens-hold : map (λ (c : Case). c .gives) spentTokens ≡ map (λ (c : Case). c .wanted) spentTokens
+unfolding receiveOf takeOf stationSound messageSound allBelow
+spent-tokens-hold = refl

@@ -81,8 +81,8 @@ boundCases =
       gives = delivered (station1 0 0 4294967295 NoSlot NoToken) (from0 10 7 0 NoSlot NoToken);
       wanted = (0 ∷ 0 ∷ []) ∷ [] ∷ (0 ∷ 0 ∷ []) ∷ (0 ∷ 0 ∷ 4294967295 ∷ []) ∷ [] ∷ [] ∷ [];
     }
-    -- rule 4: the message's destination clock is the token's, its source clock above, and the token
-    -- stays; a destination clock one above, and it goes
+    -- rule 4, no slot: the message's destination clock is the token's, its source clock above, and
+    -- the token stays; a destination clock one above, and it goes
     ∷ record {
       gives = delivered (station1 0 1 0 NoSlot (token 0 2 5)) (from0 0 3 2 NoSlot NoToken);
       wanted = (0 ∷ 0 ∷ []) ∷ [] ∷ (0 ∷ 0 ∷ []) ∷ (0 ∷ 1 ∷ 0 ∷ []) ∷ [] ∷ (0 ∷ 2 ∷ 5 ∷ []) ∷ [];
@@ -91,10 +91,21 @@ boundCases =
       gives = delivered (station1 0 1 0 NoSlot (token 0 2 5)) (from0 0 0 3 NoSlot NoToken);
       wanted = (0 ∷ 0 ∷ []) ∷ (4 ∷ []) ∷ (0 ∷ 0 ∷ []) ∷ (0 ∷ 1 ∷ 0 ∷ []) ∷ [] ∷ [] ∷ [];
     }
+    -- rule 4: the destination clock of the message's slot is the token's, the slot's source clock
+    -- and the message's clocks above, and the token stays; the slot's destination clock one above,
+    -- and it goes
+    ∷ record {
+      gives = delivered (station1 0 1 0 NoSlot (token 0 2 5)) (from0 0 9 9 (slot 8 2 1) NoToken);
+      wanted = (0 ∷ 0 ∷ []) ∷ [] ∷ (0 ∷ 0 ∷ []) ∷ (0 ∷ 1 ∷ 0 ∷ []) ∷ [] ∷ (0 ∷ 2 ∷ 5 ∷ []) ∷ [];
+    }
+    ∷ record {
+      gives = delivered (station1 0 1 0 NoSlot (token 0 2 5)) (from0 0 0 9 (slot 0 3 1) NoToken);
+      wanted = (0 ∷ 0 ∷ []) ∷ (4 ∷ []) ∷ (0 ∷ 0 ∷ []) ∷ (0 ∷ 1 ∷ 0 ∷ []) ∷ [] ∷ [] ∷ [];
+    }
     -- rule 5: the source clock one before its end, with the slot's clocks in the token, which
     -- replaces the one that stood there; and at its end
     ∷ record {
-      gives = delivered (station1 9 4294967294 3 NoSlot (token 0 2 1)) (from0 0 0 9 (slot 4294967294 8 5) NoToken);
+      gives = delivered (station1 9 4294967294 3 NoSlot (token 0 8 1)) (from0 0 0 9 (slot 4294967294 8 5) NoToken);
       wanted = (0 ∷ 0 ∷ []) ∷ (5 ∷ []) ∷ (0 ∷ 5 ∷ []) ∷ (4 ∷ 4294967295 ∷ 3 ∷ []) ∷ [] ∷ (4294967294 ∷ 8 ∷ 5 ∷ []) ∷ [];
     }
     ∷ record {

@@ -17,4 +17,5 @@ pub mod WorkedScript
 pub mod Done
 pub mod Lent
 pub mod BoundCases
+pub mod SpentTokens
 pub mod Orders

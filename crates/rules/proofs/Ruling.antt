@@ -4,6 +4,7 @@ use mathlib.Core.Path.{_≡_}
 use mathlib.Core.Bool.{Bool, true, false, _&&_}
 use lib.Dec.{eqb, ltb, leb}
 use Rattle.rules.specs.declared.clocks.SourceClock.{SourceClock}
+use Rattle.rules.specs.declared.clocks.DestinationClock.{DestinationClock}
 use Rattle.rules.specs.declared.held.Slot.{Slot}
 use Rattle.rules.specs.declared.held.Token.{Token}
 use Rattle.rules.specs.declared.held.HeldSlot.{HeldSlot}
@@ -45,6 +46,17 @@ module _ (x : Side) where
       → acts q (putSource (putToken (putValue x (x .value - q)) (OneToken (record { source = l .source; destination = l .destination; quantity = q }))) next) ≡ makeTokenBy x h
   make-acts eh e f g = rw (f, g, eh, e)
 
+  pub drop-no-token : (shown : DestinationClock) {g : HeldToken} → g ≡ NoToken → rests x ≡ dropTokenBy x shown g
+  drop-no-token shown eg = rw eg
+
+  pub drop-other-token : {seen shown : DestinationClock} {g : HeldToken} {t : Token} → seen ≡ shown → g ≡ OneToken t → ltb (t .destination .0) (seen .0) ≡ false
+      → rests x ≡ dropTokenBy x shown g
+  drop-other-token es eg e = rw (← es, eg, e)
+
+  pub drop-token-acts : {seen shown : DestinationClock} {g : HeldToken} {t : Token} → seen ≡ shown → g ≡ OneToken t → ltb (t .destination .0) (seen .0) ≡ true
+      → acts 0 (putToken x NoToken) ≡ dropTokenBy x shown g
+  drop-token-acts es eg e = rw (← es, eg, e)
+
 module _ (x : Side) (m : Message) where
   pub drop-no-slot : {h : HeldSlot} → h ≡ NoSlot → rests x ≡ dropSlotBy x m h
   drop-no-slot eh = rw eh
@@ -66,20 +78,6 @@ module _ (x : Side) (m : Message) where
       (putDestination (putSlot x (OneSlot (record { source = m .source; destination = x .destination; quantity = q }))) (destinationNext (x .destination)))
       ≡ openSlotBy x m q h
   open-acts q eh e = rw (eh, e)
-
-  pub drop-no-token : {g : HeldToken} (h : HeldSlot) → g ≡ NoToken → rests x ≡ dropTokenBy x m g h
-  drop-no-token h eg = rw eg
-
-  pub drop-slot-shown : {g : HeldToken} {h : HeldSlot} {t : Token} {l : Slot} → g ≡ OneToken t → h ≡ OneSlot l → rests x ≡ dropTokenBy x m g h
-  drop-slot-shown eg eh = rw (eg, eh)
-
-  pub drop-other-token : {g : HeldToken} {h : HeldSlot} {t : Token} → g ≡ OneToken t → h ≡ NoSlot → ltb (t .destination .0) (m .destination .0) ≡ false
-      → rests x ≡ dropTokenBy x m g h
-  drop-other-token eg eh e = rw (eg, eh, e)
-
-  pub drop-token-acts : {g : HeldToken} {h : HeldSlot} {t : Token} → g ≡ OneToken t → h ≡ NoSlot → ltb (t .destination .0) (m .destination .0) ≡ true
-      → acts 0 (putToken x NoToken) ≡ dropTokenBy x m g h
-  drop-token-acts eg eh e = rw (eg, eh, e)
 
 -- two tests joined, each known by what a call ensures
 pub both-tests : {a b c d : Bool} {t : Bool} → c ≡ a → d ≡ b → (c && d) ≡ t → (a && b) ≡ t

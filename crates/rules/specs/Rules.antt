@@ -2,6 +2,7 @@
 use Prim.Native.Nat.{ℕ, _+_, _-_, min}
 use mathlib.Core.Bool.{Bool, true, false, cond, _&&_}
 use lib.Dec.{eqb, ltb, leb}
+use Rattle.rules.specs.declared.clocks.DestinationClock.{DestinationClock}
 use Rattle.rules.specs.declared.held.Slot.{Slot}
 use Rattle.rules.specs.declared.held.Token.{Token}
 use Rattle.rules.specs.declared.held.HeldSlot.{HeldSlot}
@@ -59,15 +60,21 @@ openSlotBy x m h (OneSlot l) = rests x
 abbrev pub openSlot : Side → Message → Ruled
 openSlot x m = openSlotBy x m (halfAbove (m .value) (x .value)) (x .slot)
 
--- 4. Drop token: i has a token for j, m has no slot, and m's destination clock is above the
--- token's: the token goes.
-abbrev pub dropTokenBy : Side → Message → HeldToken → HeldSlot → Ruled
-dropTokenBy x m (OneToken t) NoSlot = cond (ltb (t .destination .0) (m .destination .0)) (acts 0 (putToken x NoToken)) (rests x)
-dropTokenBy x m (OneToken t) (OneSlot l) = rests x
-dropTokenBy x m NoToken h = rests x
+-- the destination clock of m's slot if it has one, else m's own
+abbrev pub destinationShownBy : Message → HeldSlot → DestinationClock
+destinationShownBy m (OneSlot l) = l .destination
+destinationShownBy m NoSlot = m .destination
+
+abbrev pub destinationShown : Message → DestinationClock
+destinationShown m = destinationShownBy m (m .slot)
+
+-- 4. Drop token: i has a token for j, and that clock is above the token's: the token goes.
+abbrev pub dropTokenBy : Side → DestinationClock → HeldToken → Ruled
+dropTokenBy x shown (OneToken t) = cond (ltb (t .destination .0) (shown .0)) (acts 0 (putToken x NoToken)) (rests x)
+dropTokenBy x shown NoToken = rests x
 
 abbrev pub dropToken : Side → Message → Ruled
-dropToken x m = dropTokenBy x m (x .token) (m .slot)
+dropToken x m = dropTokenBy x (destinationShown m) (x .token)
 
 -- 5. Make token: m has a slot whose source clock equals i's: q, the smaller of i's value and the
 -- slot's quantity, leaves i's value; i's token for j becomes the slot's two clocks with q; i's

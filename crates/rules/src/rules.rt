@@ -2,8 +2,9 @@
 ghost use mathlib.Core.Path.{_≡_};
 ghost use Prim.Native.Nat.{_+_, _≤_, _<_, min};
 ghost use Rattle.rules.specs.Limits.{mostValue};
-ghost use Rattle.rules.specs.Rules.{acts, rests, agree, fill, dropSlot, openSlotBy, dropTokenBy, makeToken};
+ghost use Rattle.rules.specs.Rules.{acts, rests, agree, fill, dropSlot, openSlotBy, destinationShown, dropToken, makeToken};
 ghost use Rattle.rules.specs.Taking.{tokenFits};
+use crate::clocks::DestinationClock;
 use crate::held::HeldSlot;
 use crate::held::HeldToken;
 use crate::held::Slot;
@@ -134,18 +135,26 @@ pub(crate) fn rule3_open_slot(x: Side, m: Message, h: u64) -> Ruled
     acts_with(h, opened)
 }
 
-// shown is the slot that the message shows.
-pub(crate) fn rule4_drop_token(x: Side, m: Message, shown: HeldSlot) -> Ruled
-    ensures { λ r. ⌜ r ≡ dropTokenBy x m (x .token) shown ⌝ }
+// A message that shows a slot tells of that slot; one that shows none, of all that came before its
+// own clock.
+fn destination_shown(m: Message) -> DestinationClock
+    ensures { λ r. ⌜ r ≡ destinationShown m ⌝ }
+{
+    let shown = m.slot;
+    let HeldSlot::OneSlot(open) = shown else {
+        return m.destination;
+    };
+    open.destination
+}
+
+pub(crate) fn rule4_drop_token(x: Side, m: Message) -> Ruled
+    ensures { λ r. ⌜ r ≡ dropToken x m ⌝ }
 {
     let held = x.token;
     let HeldToken::OneToken(token) = held else {
         return rests_at(x);
     };
-    let HeldSlot::NoSlot = shown else {
-        return rests_at(x);
-    };
-    let theirs = m.destination;
+    let theirs = destination_shown(m);
     let asked = token.destination;
     if !theirs.is_above(asked) {
         return rests_at(x);

@@ -3,7 +3,6 @@ ghost use mathlib.Core.Path.{_≡_};
 ghost use Rattle.rules.specs.Taking.{tokenSmall, takeAnswer, takeOf, takenOf, Takes};
 use crate::answers;
 use crate::half::half_above;
-use crate::held::HeldSlot;
 use crate::held::HeldToken;
 use crate::limits::MOST_VALUE;
 use crate::message::Message;
@@ -63,8 +62,7 @@ fn five_rules(x: Side, m: Message) -> Taken
     let h = half_above(m.value, second.value);
     let three = rule3_open_slot(second, m, h);
     let third = three.side;
-    let shown = m.slot;
-    let four = rule4_drop_token(third, m, shown);
+    let four = rule4_drop_token(third, m);
     let fourth = four.side;
     let five = rule5_make_token(fourth, m);
     let last = five.side;

@@ -7,8 +7,9 @@ use native.Mathlib.Nat.{add-zero}
 use lib.Dec.{eqb, ltb, leb}
 use Rattle.rules.specs.Half.{halfAbove}
 use Rattle.rules.specs.Limits.{lastClock}
-use Rattle.rules.specs.Rules.{agree, fillBy, dropSlotBy, openSlotBy, dropTokenBy, makeTokenBy, fill, dropSlot, openSlot, dropToken, makeToken}
+use Rattle.rules.specs.Rules.{agree, fillBy, dropSlotBy, openSlotBy, destinationShown, dropTokenBy, makeTokenBy, fill, dropSlot, openSlot, dropToken, makeToken}
 use Rattle.rules.specs.Taking.{takeOf}
+use Rattle.rules.specs.declared.clocks.DestinationClock.{DestinationClock}
 use Rattle.rules.specs.declared.held.HeldSlot.{HeldSlot}
 use Rattle.rules.specs.declared.held.HeldSlot.the-variants.{NoSlot, OneSlot}
 use Rattle.rules.specs.declared.held.HeldToken.{HeldToken}
@@ -59,11 +60,10 @@ open-slot-by : (x : Side) (m : Message) (q : ℕ) (h : HeldSlot) → Took x (ope
 open-slot-by x m q (OneSlot l) = (took, refl)
 open-slot-by x m q NoSlot = chosen (Took x) (leb 1 q && ltb (x .destination .0) lastClock) _ _ (λ e. (record { source = refl; token = refl }, refl)) (λ e. (took, refl))
 
-drop-token-by : (x : Side) (m : Message) (h : HeldToken) (l : HeldSlot) → Dropped x (dropTokenBy x m h l)
-drop-token-by x m NoToken l = (gave, refl)
-drop-token-by x m (OneToken t) (OneSlot l) = (gave, refl)
-drop-token-by x m (OneToken t) NoSlot =
-    chosen (Dropped x) (ltb (t .destination .0) (m .destination .0)) _ _ (λ e. (record { destination = refl; slot = refl }, refl)) (λ e. (gave, refl))
+drop-token-by : (x : Side) (shown : DestinationClock) (h : HeldToken) → Dropped x (dropTokenBy x shown h)
+drop-token-by x shown NoToken = (gave, refl)
+drop-token-by x shown (OneToken t) =
+    chosen (Dropped x) (ltb (t .destination .0) (shown .0)) _ _ (λ e. (record { destination = refl; slot = refl }, refl)) (λ e. (gave, refl))
 
 make-token-by : (x : Side) (h : HeldSlot) → Made x (makeTokenBy x h)
 make-token-by x NoSlot = (gave, add-zero (x .value))
@@ -82,7 +82,7 @@ module _ (x : Side) (m : Message) where
   slot-opened = open-slot-by x m (halfAbove (m .value) (x .value)) (x .slot)
 
   pub token-dropped : Dropped x (dropToken x m)
-  token-dropped = drop-token-by x m (x .token) (m .slot)
+  token-dropped = drop-token-by x (destinationShown m) (x .token)
 
   pub token-made : Made x (makeToken x m)
   token-made = make-token-by x (m .slot)

@@ -1,9 +1,9 @@
 -- Each of the five rules is a turn of the channel that it touches. Assumes nothing.
-use Prim.Native.Nat.{ℕ, _+_, min}
+use Prim.Native.Nat.{ℕ, _+_, _<_, min}
 use mathlib.Core.Path.{_≡_, refl, ap, _∙_}
 use mathlib.Core.Bool.{Bool, true, false, cond, _&&_, true≢false}
-use mathlib.Core.Logic.{inl}
-use mathlib.Core.Option.{Option, some}
+use mathlib.Core.Logic.{_⊎_, inl, inr}
+use mathlib.Core.Option.{Option, some, none}
 use native.Mathlib.Omega.{arith}
 use lib.Dec.{eqb, ltb, leb}
 use borrow.Author.Tests.{eqb-true, ltb-true, eq-eqb}
@@ -13,7 +13,7 @@ use Rattle.handshake.specs.Turn.{Turn}
 use Rattle.handshake.proofs.Keeps.{not-both, same-one}
 use Rattle.handshake.proofs.Rules.{rests, fills, drops-slot, opens-slot, drops-token, makes-token}
 use Rattle.rules.specs.Limits.{lastClock}
-use Rattle.rules.specs.Rules.{acts, agree, fillBy, dropSlotBy, openSlotBy, dropTokenBy, makeTokenBy, give, rests as restsAt}
+use Rattle.rules.specs.Rules.{acts, agree, fillBy, dropSlotBy, openSlotBy, destinationShownBy, dropTokenBy, makeTokenBy, give, rests as restsAt}
 use Rattle.rules.specs.Side.{putValue, putSlot, putToken, putDestination}
 use Rattle.rules.specs.Clocks.{destinationNext}
 use Rattle.rules.proofs.Below.{both-hold}
@@ -105,14 +105,18 @@ module _ (destination : ℕ) (slot : Option (Held ℕ)) where
 
   pub drop-token-turns : (x : Side) (m : Message) (h : HeldToken) (l : HeldSlot) → x .token ≡ h
       → ReceiverShows (outward x destination slot) (m .destination .0) (slotSeen l)
-      → Turn (outward x destination slot) (outward (dropTokenBy x m h l .side) destination slot) quiet
+      → Turn (outward x destination slot) (outward (dropTokenBy x (destinationShownBy m l) h .side) destination slot) quiet
   drop-token-turns x m NoToken l e shows = nothing-out x
-  drop-token-turns x m (OneToken t) (OneSlot l) e shows = nothing-out x
-  drop-token-turns x m (OneToken t) NoSlot e shows = by (ltb (t .destination .0) (m .destination .0)) refl
+  drop-token-turns x m (OneToken t) l e shows = by (ltb (t .destination .0) (destinationShownBy m l .0)) refl
     where
-      by : (b : Bool) → ltb (t .destination .0) (m .destination .0) ≡ b
+      past : (l : HeldSlot) → t .destination .0 < destinationShownBy m l .0
+          → ((slotSeen l ≡ none) × (t .destination .0 < m .destination .0)) ⊎ ((k : Held ℕ) × (slotSeen l ≡ some k) × (t .destination .0 < k .destination))
+      past NoSlot h = inl (refl, h)
+      past (OneSlot k) h = inr (_, refl, h)
+
+      by : (b : Bool) → ltb (t .destination .0) (destinationShownBy m l .0) ≡ b
           → Turn (outward x destination slot) (outward (cond b (acts 0 (putToken x NoToken)) (restsAt x) .side) destination slot) quiet
-      by true g = drops-token (outward x destination slot) shows _ (ap tokenSeen e) (inl (refl, ltb-true _ _ g))
+      by true g = drops-token (outward x destination slot) shows _ (ap tokenSeen e) (past l (ltb-true _ _ g))
       by false g = nothing-out x
 
   pub make-token-turns : (x : Side) (h : HeldSlot) {clock : ℕ} → Standing (outward x destination slot)

@@ -10,13 +10,12 @@ use Rattle.rules.specs.declared.held.HeldSlot.{HeldSlot}
 use Rattle.rules.specs.declared.held.HeldSlot.the-variants.{NoSlot, OneSlot}
 use Rattle.rules.specs.declared.held.HeldToken.{HeldToken}
 use Rattle.rules.specs.declared.held.HeldToken.the-variants.{NoToken, OneToken}
-use Rattle.rules.specs.declared.message.Message.{Message}
 use Rattle.rules.specs.declared.side.Side.{Side}
 use Rattle.rules.specs.declared.rules.Ruled.{Ruled}
 use Rattle.rules.specs.Limits.{lastClock}
 use Rattle.rules.specs.Report.{noReport}
 use Rattle.rules.specs.Side.{putValue, putSlot, putToken}
-use Rattle.rules.specs.Rules.{acts, rests, fill, dropSlot, openSlot, dropToken, give, makeToken}
+use Rattle.rules.specs.Rules.{acts, rests, fill, dropSlot, openSlot, dropTokenBy, dropToken, give, makeToken}
 use Rattle.rules.specs.Taking.{reported}
 use Rattle.station.specs.Steps.{putStock}
 use Rattle.table.specs.Table.{stationAt, putStation}
@@ -46,13 +45,9 @@ oneClock = deliversBy (takesBy (λ x m. fillByOne x (m .token) (x .slot)) dropSl
 abbrev pub oldToken : List Step
 oldToken = slotShown ++ (Deliver 1 ∷ Send 0 1 ∷ Deliver 2 ∷ Deliver 0 ∷ Deliver 2 ∷ [])
 
--- 2. Rule 4 without a look at the message's slot.
-abbrev dropAnyToken : Side → Message → HeldToken → Ruled
-dropAnyToken x m (OneToken t) = cond (ltb (t .destination .0) (m .destination .0)) (acts 0 (putToken x NoToken)) (rests x)
-dropAnyToken x m NoToken = rests x
-
+-- 2. Rule 4 without a look at the message's slot: by the message's own clock, always.
 abbrev pub slotUnseen : Build
-slotUnseen = deliversBy (takesBy fill dropSlot openSlot (λ x m. dropAnyToken x m (x .token)) makeToken)
+slotUnseen = deliversBy (takesBy fill dropSlot openSlot (λ x m. dropTokenBy x (m .destination) (x .token)) makeToken)
 
 -- the token of 5 is made, and the message with the slot (0,0) comes again: its passes have not
 -- landed

@@ -5,6 +5,7 @@ use mathlib.Core.Bool.{Bool, true, false, cond, _&&_, and-false}
 use native.Mathlib.Omega.{arith}
 use lib.Dec.{eqb, ltb, leb}
 use borrow.Author.Tests.{ltb-true, eqb-true, lt-ltb, le-leb}
+use Rattle.rules.specs.declared.clocks.DestinationClock.{DestinationClock}
 use Rattle.rules.specs.declared.held.HeldSlot.{HeldSlot}
 use Rattle.rules.specs.declared.held.HeldSlot.the-variants.{NoSlot, OneSlot}
 use Rattle.rules.specs.declared.held.HeldToken.{HeldToken}
@@ -15,7 +16,7 @@ use Rattle.rules.specs.Limits.{mostValue, lastClock}
 use Rattle.rules.specs.Half.{halfAbove}
 use Rattle.rules.specs.Side.{putValue, putSlot}
 use Rattle.station.specs.Sound.{slotSound, tokenSound}
-use Rattle.rules.specs.Rules.{acts, rests, agree, fill, fillBy, dropSlot, dropSlotBy, openSlot, openSlotBy, dropTokenBy, makeTokenBy}
+use Rattle.rules.specs.Rules.{acts, rests, agree, fill, fillBy, dropSlot, dropSlotBy, openSlot, openSlotBy, destinationShown, dropTokenBy, makeTokenBy}
 use Rattle.rules.specs.Taking.{takeOf}
 use Rattle.rules.proofs.Below.{needed}
 use Rattle.rules.proofs.Signed.{half-cut}
@@ -51,11 +52,10 @@ module _ {o x : Side} (w : SoundSide o x) where
   drop-slot-keeps m NoSlot = w
   drop-slot-keeps m (OneSlot l) = ruled (ltb (l .source .0) (m .source .0)) _ _ (λ e. without-slot (x .value) (w .value))
 
-  drop-token-keeps : (m : Message) (g : HeldToken) (h : HeldSlot) → SoundSide o (dropTokenBy x m g h .side)
-  drop-token-keeps m NoToken h = w
-  drop-token-keeps m (OneToken t) (OneSlot l) = w
-  drop-token-keeps m (OneToken t) NoSlot =
-      ruled (ltb (t .destination .0) (m .destination .0)) _ _
+  drop-token-keeps : (shown : DestinationClock) (g : HeldToken) → SoundSide o (dropTokenBy x shown g .side)
+  drop-token-keeps shown NoToken = w
+  drop-token-keeps shown (OneToken t) =
+      ruled (ltb (t .destination .0) (shown .0)) _ _
       (λ e. record { value = w .value; source = w .source; destination = w .destination; slot = w .slot; token = refl })
 
   -- the slot opened bears the destination clock that then goes up, so it lies below the new one
@@ -104,4 +104,4 @@ take-keeps {x = x} m w shows room =
     let one = fill-keeps w (m .token) (x .slot) room in
     let two = drop-slot-keeps one m (a .slot) in
     let three = open-slot-keeps two m shows (halfAbove (m .value) (b .value)) (half-fits (m .value) (b .value) (shows .value)) (b .slot) in
-    make-token-keeps (drop-token-keeps three m (c .token) (m .slot)) m shows (m .slot) (shows .slot)
+    make-token-keeps (drop-token-keeps three (destinationShown m) (c .token)) m shows (m .slot) (shows .slot)

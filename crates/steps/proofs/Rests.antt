@@ -6,6 +6,7 @@ use mathlib.Core.Bool.{Bool, true, false, cond, _&&_, true≢false, or-true}
 use mathlib.Core.List.{List, [], _∷_}
 use lib.Dec.{eqb, leb, ltb}
 use lib.ListN.{getD, set}
+use Rattle.rules.specs.declared.clocks.DestinationClock.{DestinationClock}
 use Rattle.rules.specs.declared.held.HeldSlot.{HeldSlot}
 use Rattle.rules.specs.declared.held.HeldSlot.the-variants.{NoSlot, OneSlot}
 use Rattle.rules.specs.declared.held.HeldToken.{HeldToken}
@@ -16,7 +17,7 @@ use Rattle.rules.specs.Clocks.{destinationNext}
 use Rattle.rules.specs.Half.{halfAbove}
 use Rattle.rules.specs.Limits.{lastClock}
 use Rattle.rules.specs.Side.{putValue, putDestination, putSlot, putToken}
-use Rattle.rules.specs.Rules.{acts, rests, agree, give, fillBy, fill, dropSlotBy, dropSlot, openSlotBy, openSlot, dropTokenBy, dropToken, makeTokenBy, makeToken}
+use Rattle.rules.specs.Rules.{acts, rests, agree, give, fillBy, fill, dropSlotBy, dropSlot, openSlotBy, openSlot, destinationShown, dropTokenBy, dropToken, makeTokenBy, makeToken}
 use Rattle.rules.specs.Taking.{takeOf}
 use Rattle.station.specs.declared.station.Station.{Station}
 use Rattle.station.specs.Held.{noSlot, noToken}
@@ -46,10 +47,9 @@ module _ (x : Side) where
       (putDestination (putSlot x (OneSlot (record { source = m .source; destination = x .destination; quantity = q }))) (destinationNext (x .destination))) e
   open-slot-rests m q (OneSlot l) e = refl
 
-  drop-token-rests : (m : Message) (h : HeldToken) (l : HeldSlot) → dropTokenBy x m h l .acted ≡ false → dropTokenBy x m h l .side ≡ x
-  drop-token-rests m NoToken l e = refl
-  drop-token-rests m (OneToken t) NoSlot e = chosen (ltb (t .destination .0) (m .destination .0)) 0 (putToken x NoToken) e
-  drop-token-rests m (OneToken t) (OneSlot l) e = refl
+  drop-token-rests : (shown : DestinationClock) (h : HeldToken) → dropTokenBy x shown h .acted ≡ false → dropTokenBy x shown h .side ≡ x
+  drop-token-rests shown NoToken e = refl
+  drop-token-rests shown (OneToken t) e = chosen (ltb (t .destination .0) (shown .0)) 0 (putToken x NoToken) e
 
   make-token-rests : (l : HeldSlot) → makeTokenBy x l .acted ≡ false → makeTokenBy x l .side ≡ x
   make-token-rests NoSlot e = refl
@@ -70,7 +70,7 @@ rests-same x m e =
     let four = dropToken (three .side) m in
     let five = makeToken (four .side) m in
     make-token-rests (four .side) (m .slot) (quiet (five .acted) (λ f. simp (f, or-true) at e))
-    ∙ drop-token-rests (three .side) m (three .side .token) (m .slot) (quiet (four .acted) (λ f. simp (f, or-true) at e))
+    ∙ drop-token-rests (three .side) (destinationShown m) (three .side .token) (quiet (four .acted) (λ f. simp (f, or-true) at e))
     ∙ open-slot-rests (two .side) m (halfAbove (m .value) (two .side .value)) (two .side .slot) (quiet (three .acted) (λ f. simp (f, or-true) at e))
     ∙ drop-slot-rests (one .side) m (one .side .slot) (quiet (two .acted) (λ f. simp (f, or-true) at e))
     ∙ fill-rests x (m .token) (x .slot) (quiet (one .acted) (λ f. simp (f, or-true) at e))

@@ -13,7 +13,8 @@ compare scripts|calls|records|all|plants
   records  reading and writing records (needs the feature linked)
   all      the three, each with the whole budget
   plants   each fault in turn, to show that it is found (needs --bench)
-  NAME     FillByOneClock, Rule4WithoutSlot, Rule2First, Rule3BeforeFill or ClockStands
+  NAME     FillByOneClock, Rule4WithoutSlot, Rule2First, Rule3BeforeFill, ClockStands
+           or NarrowRule4
 Ends with 0 if there is no difference, 1 at the first difference, 2 if it could not be run.";
 
 /// What is compared.
