@@ -60,7 +60,7 @@ openSlotBy x m h (OneSlot l) = rests x
 abbrev pub openSlot : Side → Message → Ruled
 openSlot x m = openSlotBy x m (halfAbove (m .value) (x .value)) (x .slot)
 
--- the destination clock of m's slot if it has one, else m's own
+-- the clock that rule 4 goes by
 abbrev pub destinationShownBy : Message → HeldSlot → DestinationClock
 destinationShownBy m (OneSlot l) = l .destination
 destinationShownBy m NoSlot = m .destination
@@ -68,7 +68,8 @@ destinationShownBy m NoSlot = m .destination
 abbrev pub destinationShown : Message → DestinationClock
 destinationShown m = destinationShownBy m (m .slot)
 
--- 4. Drop token: i has a token for j, and that clock is above the token's: the token goes.
+-- 4. Drop token: i has a token for j, and the destination clock of m's slot if it has one, else m's
+-- own, is above the token's: the token goes.
 abbrev pub dropTokenBy : Side → DestinationClock → HeldToken → Ruled
 dropTokenBy x shown (OneToken t) = cond (ltb (t .destination .0) (shown .0)) (acts 0 (putToken x NoToken)) (rests x)
 dropTokenBy x shown NoToken = rests x

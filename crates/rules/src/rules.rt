@@ -135,8 +135,7 @@ pub(crate) fn rule3_open_slot(x: Side, m: Message, h: u64) -> Ruled
     acts_with(h, opened)
 }
 
-// A message that shows a slot tells of that slot; one that shows none, of all that came before its
-// own clock.
+// Of the sender's slots for this station those that are older than this clock are gone.
 fn destination_shown(m: Message) -> DestinationClock
     ensures { λ r. ⌜ r ≡ destinationShown m ⌝ }
 {
