@@ -14,9 +14,9 @@ use Rattle.rules.specs.declared.held.HeldToken.the-variants.{NoToken, On
 use Rattle.rules.specs.declared.message.Message.{Message}
 use Rattle.rules.specs.declared.side.Side.{Side}
 use Rattle.rules.specs.Limits.{lastClock}
-use Rattle.rules.specs.Clocks.{sourceNext, destinationNext}
+use Rattle.rules.specs.Clocks.{destinationAbove, sourceNext, destinationNext}
 use Rattle.rules.specs.Side.{putValue, putSource, putDestination, putSlot, putToken}
-use Rattle.rules.specs.Rules.{acts, rests, agree, fillBy, dropSlotBy, openSlotBy, dropTokenBy, makeTokenBy}
+use Rattle.rules.specs.Rules.{acts, rests, agree, fillBy, dropSlotBy, openSlotBy, destinationShownBy, dropTokenBy, makeTokenBy}
 
 -- what is held or shown is a variable of its own, so that putting its case for it leaves the side
 -- alone
@@ -49,13 +49,13 @@ module _ (x : Side) where
   pub drop-no-token : (shown : DestinationClock) {g : HeldToken} → g ≡ NoToken → rests x ≡ dropTokenBy x shown g
   drop-no-token shown eg = rw eg
 
-  pub drop-other-token : {seen shown : DestinationClock} {g : HeldToken} {t : Token} → seen ≡ shown → g ≡ OneToken t → ltb (t .destination .0) (seen .0) ≡ false
+  pub drop-other-token : (shown : DestinationClock) {g : HeldToken} {t : Token} → g ≡ OneToken t → destinationAbove shown (t .destination) ≡ false
       → rests x ≡ dropTokenBy x shown g
-  drop-other-token es eg e = rw (← es, eg, e)
+  drop-other-token shown eg e = rw (eg, e)
 
-  pub drop-token-acts : {seen shown : DestinationClock} {g : HeldToken} {t : Token} → seen ≡ shown → g ≡ OneToken t → ltb (t .destination .0) (seen .0) ≡ true
+  pub drop-token-acts : (shown : DestinationClock) {g : HeldToken} {t : Token} → g ≡ OneToken t → destinationAbove shown (t .destination) ≡ true
       → acts 0 (putToken x NoToken) ≡ dropTokenBy x shown g
-  drop-token-acts es eg e = rw (← es, eg, e)
+  drop-token-acts shown eg e = rw (eg, e)
 
 module _ (x : Side) (m : Message) where
   pub drop-no-slot : {h : HeldSlot} → h ≡ NoSlot → rests x ≡ dropSlotBy x m h
@@ -78,6 +78,14 @@ module _ (x : Side) (m : Message) where
       (putDestination (putSlot x (OneSlot (record { source = m .source; destination = x .destination; quantity = q }))) (destinationNext (x .destination)))
       ≡ openSlotBy x m q h
   open-acts q eh e = rw (eh, e)
+
+-- what a message shows of its sender's slots, by whether it has one
+module _ (m : Message) (clock : DestinationClock) where
+  pub spent-by-clock : {h : HeldSlot} → h ≡ NoSlot → destinationAbove (m .destination) clock ≡ destinationAbove (destinationShownBy m h) clock
+  spent-by-clock eh = rw eh
+
+  pub spent-by-slot : {h : HeldSlot} {l : Slot} → h ≡ OneSlot l → destinationAbove (l .destination) clock ≡ destinationAbove (destinationShownBy m h) clock
+  spent-by-slot eh = rw eh
 
 -- two tests joined, each known by what a call ensures
 pub both-tests : {a b c d : Bool} {t : Bool} → c ≡ a → d ≡ b → (c && d) ≡ t → (a && b) ≡ t

@@ -1,5 +1,5 @@
 -- No spent token is left: a token that a side holds after taking a message is not older than the
--- destination clock that the message shows. Assumes nothing.
+-- slot that the message shows, or than the message's own clock where it shows none. Assumes nothing.
 use Prim.Native.Nat.{_≤_}
 use mathlib.Core.Path.{_≡_, refl}
 use mathlib.Core.Bool.{_&&_}
@@ -7,6 +7,7 @@ use native.Mathlib.Omega.{arith}
 use lib.Dec.{eqb, ltb}
 use borrow.Author.Tests.{ltb-false}
 use Rattle.rules.specs.declared.clocks.DestinationClock.{DestinationClock}
+use Rattle.rules.specs.declared.held.Slot.{Slot}
 use Rattle.rules.specs.declared.held.Token.{Token}
 use Rattle.rules.specs.declared.held.HeldSlot.{HeldSlot}
 use Rattle.rules.specs.declared.held.HeldSlot.the-variants.{NoSlot, OneSlot}
@@ -43,5 +44,9 @@ taken x m =
     let three = openSlot (dropSlot (fill x m .side) m .side) m .side in
     made (dropTokenBy three (destinationShown m) (three .token) .side) m (m .slot) (dropped three (destinationShown m) (three .token) refl)
 
-pub none-spent : (x : Side) (m : Message) (t : Token) → takeOf x m .side .token ≡ OneToken t → destinationShown m .0 ≤ t .destination .0
-none-spent x m t e = let h = taken x m in rw e at h
+module _ (x : Side) (m : Message) (t : Token) where
+  pub none-before-slot : (l : Slot) → m .slot ≡ OneSlot l → takeOf x m .side .token ≡ OneToken t → l .destination .0 ≤ t .destination .0
+  none-before-slot l shown held = let h = taken x m in rw (held, shown) at h
+
+  pub none-before-clock : m .slot ≡ NoSlot → takeOf x m .side .token ≡ OneToken t → m .destination .0 ≤ t .destination .0
+  none-before-clock shown held = let h = taken x m in rw (held, shown) at h

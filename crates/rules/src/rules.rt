@@ -2,9 +2,9 @@
 ghost use mathlib.Core.Path.{_≡_};
 ghost use Prim.Native.Nat.{_+_, _≤_, _<_, min};
 ghost use Rattle.rules.specs.Limits.{mostValue};
+ghost use Rattle.rules.specs.Clocks.{destinationAbove};
 ghost use Rattle.rules.specs.Rules.{acts, rests, agree, fill, dropSlot, openSlotBy, destinationShown, dropToken, makeToken};
 ghost use Rattle.rules.specs.Taking.{tokenFits};
-use crate::clocks::DestinationClock;
 use crate::held::HeldSlot;
 use crate::held::HeldToken;
 use crate::held::Slot;
@@ -135,15 +135,18 @@ pub(crate) fn rule3_open_slot(x: Side, m: Message, h: u64) -> Ruled
     acts_with(h, opened)
 }
 
-// Of the sender's slots for this station those that are older than this clock are gone.
-fn destination_shown(m: Message) -> DestinationClock
-    ensures { λ r. ⌜ r ≡ destinationShown m ⌝ }
+// Whether the sender's slots for this station that are left are all newer than the token's.
+fn is_spent(token: Token, m: Message) -> bool
+    ensures { λ r. ⌜ r ≡ destinationAbove (destinationShown m) (token .destination) ⌝ }
 {
+    let asked = token.destination;
     let shown = m.slot;
     let HeldSlot::OneSlot(open) = shown else {
-        return m.destination;
+        let theirs = m.destination;
+        return theirs.is_above(asked);
     };
-    open.destination
+    let theirs = open.destination;
+    theirs.is_above(asked)
 }
 
 pub(crate) fn rule4_drop_token(x: Side, m: Message) -> Ruled
@@ -153,9 +156,7 @@ pub(crate) fn rule4_drop_token(x: Side, m: Message) -> Ruled
     let HeldToken::OneToken(token) = held else {
         return rests_at(x);
     };
-    let theirs = destination_shown(m);
-    let asked = token.destination;
-    if !theirs.is_above(asked) {
+    if !is_spent(token, m) {
         return rests_at(x);
     }
     let source = x.source;

@@ -2,8 +2,8 @@
 use Prim.Native.Nat.{ℕ, _+_, _<_, min}
 use mathlib.Core.Path.{_≡_, refl, ap, _∙_}
 use mathlib.Core.Bool.{Bool, true, false, cond, _&&_, true≢false}
-use mathlib.Core.Logic.{_⊎_, inl, inr}
-use mathlib.Core.Option.{Option, some, none}
+use mathlib.Core.Logic.{inl, inr}
+use mathlib.Core.Option.{Option, some}
 use native.Mathlib.Omega.{arith}
 use lib.Dec.{eqb, ltb, leb}
 use borrow.Author.Tests.{eqb-true, ltb-true, eq-eqb}
@@ -17,6 +17,8 @@ use Rattle.rules.specs.Rules.{acts, agree, fillBy, dropSlotBy, openSlotBy, dest
 use Rattle.rules.specs.Side.{putValue, putSlot, putToken, putDestination}
 use Rattle.rules.specs.Clocks.{destinationNext}
 use Rattle.rules.proofs.Below.{both-hold}
+use Rattle.rules.proofs.InOrder.{chosen}
+use Rattle.rules.specs.declared.clocks.DestinationClock.{DestinationClock}
 use Rattle.rules.specs.declared.held.HeldSlot.{HeldSlot}
 use Rattle.rules.specs.declared.held.HeldSlot.the-variants.{NoSlot, OneSlot}
 use Rattle.rules.specs.declared.held.HeldToken.{HeldToken}
@@ -24,6 +26,7 @@ use Rattle.rules.specs.declared.held.HeldToken.the-variants.{NoToken, OneToken}
 use Rattle.rules.specs.declared.held.Slot.{Slot}
 use Rattle.rules.specs.declared.held.Token.{Token}
 use Rattle.rules.specs.declared.message.Message.{Message}
+use Rattle.rules.specs.declared.rules.Ruled.{Ruled}
 use Rattle.rules.specs.declared.side.Side.{Side}
 use Rattle.runs.specs.Demand3.{waitsFor}
 use Rattle.runs.proofs.Seen.{slotSeen, tokenSeen, inward, outward, arrivesBy, departsBy}
@@ -103,21 +106,22 @@ module _ (destination : ℕ) (slot : Option (Held ℕ)) where
   nothing-out : (x : Side) → Turn (outward x destination slot) (outward x destination slot) quiet
   nothing-out x = rests (outward x destination slot) (omega arith) (omega arith)
 
+  -- rule 4 is a turn where it is one whenever it acts
+  by-clock : (x : Side) (t : Token) (shown : DestinationClock)
+      → (t .destination .0 < shown .0 → Turn (outward x destination slot) (outward (putToken x NoToken) destination slot) quiet)
+      → Turn (outward x destination slot) (outward (dropTokenBy x shown (OneToken t) .side) destination slot) quiet
+  by-clock x t shown goes =
+      chosen (λ (r : Ruled). Turn (outward x destination slot) (outward (r .side) destination slot) quiet) (ltb (t .destination .0) (shown .0)) _ _
+      (λ g. goes (ltb-true _ _ g)) (λ g. nothing-out x)
+
   pub drop-token-turns : (x : Side) (m : Message) (h : HeldToken) (l : HeldSlot) → x .token ≡ h
       → ReceiverShows (outward x destination slot) (m .destination .0) (slotSeen l)
       → Turn (outward x destination slot) (outward (dropTokenBy x (destinationShownBy m l) h .side) destination slot) quiet
   drop-token-turns x m NoToken l e shows = nothing-out x
-  drop-token-turns x m (OneToken t) l e shows = by (ltb (t .destination .0) (destinationShownBy m l .0)) refl
-    where
-      past : (l : HeldSlot) → t .destination .0 < destinationShownBy m l .0
-          → ((slotSeen l ≡ none) × (t .destination .0 < m .destination .0)) ⊎ ((k : Held ℕ) × (slotSeen l ≡ some k) × (t .destination .0 < k .destination))
-      past NoSlot h = inl (refl, h)
-      past (OneSlot k) h = inr (_, refl, h)
-
-      by : (b : Bool) → ltb (t .destination .0) (destinationShownBy m l .0) ≡ b
-          → Turn (outward x destination slot) (outward (cond b (acts 0 (putToken x NoToken)) (restsAt x) .side) destination slot) quiet
-      by true g = drops-token (outward x destination slot) shows _ (ap tokenSeen e) (past l (ltb-true _ _ g))
-      by false g = nothing-out x
+  drop-token-turns x m (OneToken t) NoSlot e shows =
+      by-clock x t (m .destination) (λ h. drops-token (outward x destination slot) shows _ (ap tokenSeen e) (inl (refl, h)))
+  drop-token-turns x m (OneToken t) (OneSlot l) e shows =
+      by-clock x t (l .destination) (λ h. drops-token (outward x destination slot) shows _ (ap tokenSeen e) (inr (_, refl, h)))
 
   pub make-token-turns : (x : Side) (h : HeldSlot) {clock : ℕ} → Standing (outward x destination slot)
       → ReceiverShows (outward x destination slot) clock (slotSeen h)

@@ -17,11 +17,8 @@ rests-at-requires c κs = search needs
 returns : tie.Need-returns
 returns c = c .rests-at .ensures ∙ drop-no-token (c .before .before .before .args .x) _ (c .before .enum-told .given .1)
 
-destination-shown-requires : tie.Need-destination-shown-requires
-destination-shown-requires c κs = search needs
-
-is-above-requires : tie.Need-is-above-requires
-is-above-requires c κs = search needs
+is-spent-requires : tie.Need-is-spent-requires
+is-spent-requires c κs = search needs
 
 rests-at-requires-2 : tie.Need-rests-at-requires-2
 rests-at-requires-2 c κs = search needs
@@ -29,10 +26,9 @@ rests-at-requires-2 c κs = search needs
 returns-2 : tie.Need-returns-2
 returns-2 c =
     let at = c .before .before in
-    let shown = at .before .before .destination-shown in
-    let held = at .before .before .before .before .held in
-    c .rests-at2 .ensures
-    ∙ drop-other-token (at .before .before .before .before .before .before .args .x) (shown .ensures) (held .given .1) (sym (at .is-above .ensures) ∙ not-true _ (c .before .if1 .taken))
+    let held = at .before .before .held in
+    let stays = sym (at .is-spent .ensures) ∙ not-true _ (c .before .if1 .taken) in
+    c .rests-at2 .ensures ∙ drop-other-token (at .before .before .before .before .args .x) _ (held .given .1) stays
 
 acts-with-requires : tie.Need-acts-with-requires
 acts-with-requires c κs = search needs
@@ -40,10 +36,9 @@ acts-with-requires c κs = search needs
 returns-3 : tie.Need-returns-3
 returns-3 c =
     let at = c .before .before .before .before in
-    let shown = at .before .before .destination-shown in
-    let held = at .before .before .before .before .held in
-    c .acts-with .ensures
-    ∙ drop-token-acts (at .before .before .before .before .before .before .args .x) (shown .ensures) (held .given .1) (sym (at .is-above .ensures) ∙ not-false _ (c .before .before .before .if1 .left))
+    let held = at .before .before .held in
+    let goes = sym (at .is-spent .ensures) ∙ not-false _ (c .before .before .before .if1 .left) in
+    c .acts-with .ensures ∙ drop-token-acts (at .before .before .before .before .args .x) _ (held .given .1) goes
 
 pub rule4-drop-token-spec : {M : Type 1} → statement M
 rule4-drop-token-spec =
@@ -53,8 +48,7 @@ rule4-drop-token-spec =
     enum-told
     rests-at-requires
     returns
-    destination-shown-requires
-    is-above-requires
+    is-spent-requires
     rests-at-requires-2
     returns-2
     acts-with-requires
