@@ -114,6 +114,8 @@ static void check_refusals(void) {
     refused("0 writes for 1 into 29 bytes", qb_station_write(s, 1, out, room), QB_SHORT_BUFFER);
     refused("0 adds no passes", qb_station_add(s, 0), QB_BAD_AMOUNT);
     refused("0 adds a billion", qb_station_add(s, QB_MOST_AMOUNT), QB_INTAKE_LIMIT);
+    refused("0 draws no passes", qb_station_draw(s, 0), QB_BAD_AMOUNT);
+    refused("0 draws a billion", qb_station_draw(s, QB_MOST_AMOUNT), QB_TOO_FEW);
     refused("0 receives what is for 1", qb_station_receive(s, record, record_len), QB_FOR_ANOTHER);
     refused("0 receives it with a byte missing", qb_station_receive(s, record, record_len - 1),
             QB_NO_RECORD);
@@ -156,14 +158,15 @@ int main(void) {
     send_record("1 writes a record for 0", 1, 0, (qb_told){.result = 49});
     receive_record("0 receives it", 0, (qb_told){.rules = QB_RULE_MAKE_TOKEN, .made = 5});
     receive_record("0 receives it again", 0, (qb_told){0});
-    draw("0 draws 7 and gets what is there", 0, 7, (qb_told){.result = 5});
+    draw("0 draws 7, more than is there", 0, 7, (qb_told){.answer = QB_TOO_FEW});
+    draw("0 draws 3", 0, 3, (qb_told){.result = 3});
     send_record("0 writes a record for 1", 0, 1, (qb_told){.result = 49});
     receive_record("1 receives it", 1, (qb_told){.result = 5, .rules = QB_RULE_FILL});
     receive_record("1 receives it again", 1, (qb_told){0});
     check_refusals();
-    check_station(0, 0, 1, 0);
+    check_station(0, 2, 1, 0);
     check_station(1, 5, 0, 1);
     check_held();
-    printf("10 added, 5 drawn, 5 at station 1: nothing lost, nothing doubled\n");
+    printf("10 added, 3 drawn, 2 at station 0 and 5 at station 1: nothing lost, nothing doubled\n");
     return 0;
 }

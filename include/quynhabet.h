@@ -19,8 +19,9 @@
  * for stations that are linked by records, as here, no theorem says it yet.
  *
  * WHAT A STATION DOES. It evens out: the one with less asks for half of the difference. No call
- * moves a chosen amount, and 1 against 0 stays. The intake limit is for life. At a clock's end
- * slots are opened, or tokens made, no more; the answer is still 0.
+ * moves a chosen amount, and 1 against 0 stays. A draw takes all that is asked or nothing. The
+ * intake limit is for life. At a clock's end slots are opened, or tokens made, no more; the answer
+ * is still 0.
  *
  * THE LAYOUT, version 1. A station is 134 numbers of 64 bits:
  *
@@ -125,6 +126,7 @@ extern "C" {
 #define QB_BAD_LINE 12        /* of a script: a line can't be read */
 #define QB_LONG_SCRIPT 13     /* of a script: it is longer than 65,536 bytes */
 #define QB_SHORT_BUFFER 14    /* the output buffer is shorter than the record */
+#define QB_TOO_FEW 15         /* fewer passes can be drawn than asked */
 
 /* The rules of receiving, as they stand in `rules`. */
 #define QB_RULE_FILL 1
@@ -151,8 +153,7 @@ qb_told qb_station_check(const uint64_t station[QB_STATION_NUMBERS]);
 /* Adds passes. Result: the new value. Refusals, in order: 1, 4, 5, 10. */
 qb_told qb_station_add(uint64_t station[QB_STATION_NUMBERS], uint64_t amount);
 
-/* Draws passes, at most the value. Result: what was taken, which may be 0.
- * Refusals, in order: 1, 4. */
+/* Draws passes, all that are asked or none. Result: the amount. Refusals, in order: 1, 4, 15. */
 qb_told qb_station_draw(uint64_t station[QB_STATION_NUMBERS], uint64_t amount);
 
 /* Writes the record for station `to`. Result: its length; bytes past it stay.

@@ -4,7 +4,7 @@
 //! between any two calls. In the end every pass is accounted for. Then the rule for saving is
 //! broken twice, and the sum no longer fits.
 
-use quynhabet::{Record, Report, Rule, Station};
+use quynhabet::{Record, Refusal, Report, Rule, Station};
 
 const STATIONS: u64 = 3;
 const SENDS: u64 = 24;
@@ -53,12 +53,12 @@ impl Lab {
         self.added += amount;
     }
 
-    fn draw(&mut self, number: u64, amount: u64) -> u64 {
+    fn draw(&mut self, number: u64, amount: u64) -> Result<(), Refusal> {
         let mut station = self.load(number);
-        let taken = station.draw(amount).expect("a small amount can be drawn");
+        station.draw(amount)?;
         self.save(&station); // before the passes are used
-        self.drawn += taken;
-        taken
+        self.drawn += amount;
+        Ok(())
     }
 
     /// The record shows what is saved already, so it may leave at once.
@@ -214,14 +214,17 @@ impl Link {
 /// What happens at the stations beside the records: adds and draws, each at its time.
 fn beside_the_records(lab: &mut Lab, now: u64) {
     let adds = [(1, 0, 60), (10, 2, 25)];
-    let draws = [(8, 1, 4), (14, 0, 9), (19, 2, 6)];
+    let draws = [(4, 1, 4), (8, 1, 4), (14, 0, 9), (19, 2, 6)];
     for (_, number, amount) in adds.into_iter().filter(|(when, ..)| *when == now) {
         lab.add(number, amount);
         lab.show(&no_arrow(), &format!("station {number} adds {amount}"));
     }
     for (_, number, amount) in draws.into_iter().filter(|(when, ..)| *when == now) {
-        let taken = lab.draw(number, amount);
-        lab.show(&no_arrow(), &format!("station {number} draws {amount} and gets {taken}"));
+        let how = match lab.draw(number, amount) {
+            Ok(()) => String::new(),
+            Err(refusal) => format!(": refused by {}", refusal.number()),
+        };
+        lab.show(&no_arrow(), &format!("station {number} draws {amount}{how}"));
     }
 }
 

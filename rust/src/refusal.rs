@@ -48,12 +48,14 @@ pub enum Refusal {
     LongScript,
     /// 14: the output buffer is shorter than the record.
     ShortBuffer,
+    /// 15: fewer passes can be drawn than asked.
+    TooFew,
     /// A number that this package does not know, from an archive that is newer than it.
     Other(u64),
 }
 
 /// Every refusal that has a name.
-const NAMED: [Refusal; 14] = [
+const NAMED: [Refusal; 15] = [
     Refusal::NotSound,
     Refusal::NotBelowCount,
     Refusal::SameStation,
@@ -68,6 +70,7 @@ const NAMED: [Refusal; 14] = [
     Refusal::BadLine,
     Refusal::LongScript,
     Refusal::ShortBuffer,
+    Refusal::TooFew,
 ];
 
 impl Refusal {
@@ -88,6 +91,7 @@ impl Refusal {
             Refusal::BadLine => 12,
             Refusal::LongScript => 13,
             Refusal::ShortBuffer => 14,
+            Refusal::TooFew => 15,
             Refusal::Other(number) => number,
         }
     }
@@ -98,8 +102,8 @@ impl Refusal {
     /// use quynhabet::Refusal;
     ///
     /// assert_eq!(Refusal::from_number(0), None);
-    /// assert_eq!(Refusal::from_number(14), Some(Refusal::ShortBuffer));
-    /// assert_eq!(Refusal::from_number(15), Some(Refusal::Other(15)));
+    /// assert_eq!(Refusal::from_number(15), Some(Refusal::TooFew));
+    /// assert_eq!(Refusal::from_number(16), Some(Refusal::Other(16)));
     /// ```
     pub fn from_number(number: u64) -> Option<Refusal> {
         let named = NAMED.into_iter().find(|refusal| refusal.number() == number);
@@ -128,6 +132,7 @@ impl fmt::Display for Refusal {
             Refusal::BadLine => "a script line can't be read",
             Refusal::LongScript => "the script is longer than 65,536 bytes",
             Refusal::ShortBuffer => "the output buffer is shorter than the record",
+            Refusal::TooFew => "fewer passes can be drawn than asked",
             Refusal::Other(number) => return write!(f, "refused with the unknown answer {number}"),
         })
     }

@@ -46,20 +46,25 @@ impl Station {
         Ok(ffi::station_add(&mut self.numbers, amount).done()?.result)
     }
 
-    /// Draws passes, at most the value, and gives what was taken. Refusal: 4.
+    /// Draws passes, all that are asked or none. Refusals: 4, 15.
     ///
     /// Save before the passes are used.
     ///
     /// ```
+    /// use quynhabet::Refusal;
+    ///
     /// # let mut station = quynhabet::Station::fresh(0, 2)?;
     /// station.add(10)?;
-    /// assert_eq!(station.draw(7)?, 7);
-    /// assert_eq!(station.draw(7)?, 3);
-    /// assert_eq!(station.draw(7)?, 0);
-    /// # Ok::<(), quynhabet::Refusal>(())
+    /// station.draw(7)?;
+    /// assert_eq!(station.draw(7), Err(Refusal::TooFew));
+    /// assert_eq!(station.value(), 3);
+    /// station.draw(3)?;
+    /// assert_eq!(station.value(), 0);
+    /// # Ok::<(), Refusal>(())
     /// ```
-    pub fn draw(&mut self, amount: u64) -> Result<u64, Refusal> {
-        Ok(ffi::station_draw(&mut self.numbers, amount).done()?.result)
+    pub fn draw(&mut self, amount: u64) -> Result<(), Refusal> {
+        ffi::station_draw(&mut self.numbers, amount).done()?;
+        Ok(())
     }
 
     /// The record for station `to`. Refusals: 2, 3.

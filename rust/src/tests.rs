@@ -1,5 +1,5 @@
-//! The layout, numbers in and numbers out, refusals that leave everything as it was, and a spent
-//! token that goes though a slot is shown.
+//! The layout, numbers in and numbers out, refusals that leave everything as it was, a draw that is
+//! all or none, and a spent token that goes though a slot is shown.
 
 use crate::ffi;
 use crate::*;
@@ -133,6 +133,9 @@ fn a_station_that_refuses_stays_as_it_was() {
     assert_eq!(station.add(MOST_AMOUNT).unwrap_err(), Refusal::IntakeLimit);
     assert_eq!(station.draw(0).unwrap_err(), Refusal::BadAmount);
     assert_eq!(station.draw(u64::MAX).unwrap_err(), Refusal::BadAmount);
+    assert_eq!(station.draw(MOST_AMOUNT + 1).unwrap_err(), Refusal::BadAmount);
+    assert_eq!(station.draw(MOST_AMOUNT).unwrap_err(), Refusal::TooFew);
+    assert_eq!(station.draw(station.value() + 1).unwrap_err(), Refusal::TooFew);
     assert_eq!(station.record_for(3).unwrap_err(), Refusal::NotBelowCount);
     assert_eq!(station.record_for(1).unwrap_err(), Refusal::SameStation);
     assert_eq!(station.receive(&[]).unwrap_err(), Refusal::NoRecord);
@@ -250,7 +253,7 @@ fn a_message_goes_through_its_record() {
 #[test]
 fn refusals_and_rules_have_their_numbers() {
     assert_eq!(Refusal::from_number(0), None);
-    for number in 1..=14 {
+    for number in 1..=15 {
         let refusal = Refusal::from_number(number).unwrap();
         assert_eq!(refusal.number(), number);
         assert_ne!(refusal, Refusal::Other(number));
@@ -265,7 +268,7 @@ fn refusals_and_rules_have_their_numbers() {
 
 #[test]
 fn an_answer_that_is_not_known_is_a_refusal() {
-    for number in [15, 20, u64::MAX] {
+    for number in [16, 20, u64::MAX] {
         let told = ffi::Told { answer: number, result: 0, rules: 0, opened: 0, made: 0 };
         let refusal = told.done().unwrap_err();
         assert_eq!((refusal, refusal.number()), (Refusal::Other(number), number));
@@ -285,6 +288,19 @@ fn a_report_names_the_rules_that_acted() {
 fn a_report_passes_over_rules_that_are_not_known() {
     let told = ffi::Told { answer: 0, result: 0, rules: 2 + 32 + (1 << 63), opened: 0, made: 0 };
     assert!(Report::from_told(told).rules().eq([Rule::DropSlot]));
+}
+
+#[test]
+fn a_draw_is_all_or_none() {
+    let mut numbers = busy_station().to_numbers();
+    let before = numbers;
+    assert_eq!(ffi::station_draw(&mut numbers, 6), refusal(Refusal::TooFew));
+    assert_eq!(numbers, before);
+    let told = ffi::Told { answer: 0, result: 5, rules: 0, opened: 0, made: 0 };
+    assert_eq!(ffi::station_draw(&mut numbers, 5), told);
+    let mut wanted = before;
+    wanted[2] = 0;
+    assert_eq!(numbers, wanted);
 }
 
 #[test]

@@ -34,6 +34,8 @@ pub enum Answer {
     LongScript = 13,
     /// "the output buffer is shorter than the record"
     ShortBuffer = 14,
+    /// "15 when fewer passes can be drawn than asked" (request 2026-07)
+    TooFew = 15,
 }
 
 impl Answer {

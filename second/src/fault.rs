@@ -1,6 +1,6 @@
 //! The faults that can be planted.
 
-/// The document's "Ways it has been got wrong", and one that was right before
+/// The document's "Ways it has been got wrong", and two that were right before
 /// a request. One can be planted, to show that the comparison sees it.
 #[derive(Clone, Copy, Debug, Default, PartialEq, Eq)]
 pub enum Fault {
@@ -20,17 +20,21 @@ pub enum Fault {
     /// Rule 4 as it was before request 2026-01: a message with a slot drops
     /// no token.
     NarrowRule4,
+    /// A draw as it was before request 2026-07: where more is asked than is
+    /// there it takes what is there.
+    DrawsWhatIsThere,
 }
 
 impl Fault {
-    /// The six that can be planted.
-    pub const ALL: [Fault; 6] = [
+    /// The seven that can be planted.
+    pub const ALL: [Fault; 7] = [
         Fault::FillByOneClock,
         Fault::Rule4WithoutSlot,
         Fault::Rule2First,
         Fault::Rule3BeforeFill,
         Fault::ClockStands,
         Fault::NarrowRule4,
+        Fault::DrawsWhatIsThere,
     ];
 
     /// Why no script shows the fault; None where one does.

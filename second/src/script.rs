@@ -65,7 +65,7 @@ pub fn lines(script: &[u8]) -> Vec<&[u8]> {
 pub fn do_step(table: &mut Table, step: Step, fault: Fault) -> Told {
     match step {
         Step::Add { station, amount } => table.add(station, amount),
-        Step::Draw { station, amount } => table.draw(station, amount),
+        Step::Draw { station, amount } => table.draw(station, amount, fault),
         Step::Send { from, to } => table.send(from, to),
         Step::Deliver { place } => table.deliver(place, fault),
         Step::Lose { place } => table.lose(place),

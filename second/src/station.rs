@@ -86,18 +86,22 @@ impl Station {
         Ok(self.value)
     }
 
-    /// "Draw takes the smaller of the value and the amount asked. Result:
-    /// what was taken, which may be 0." At one station refusals 1, 4.
-    pub fn draw(&mut self, amount: u64) -> Told {
-        Told::of(self.try_draw(amount))
+    /// "A draw is now all or none." (request 2026-07) Result: the amount. At
+    /// one station refusals 1, 4, 15.
+    pub fn draw(&mut self, amount: u64, fault: Fault) -> Told {
+        Told::of(self.try_draw(amount, fault))
     }
 
-    fn try_draw(&mut self, amount: u64) -> Result<u64, Answer> {
+    fn try_draw(&mut self, amount: u64, fault: Fault) -> Result<u64, Answer> {
         self.lent_sound()?;
         if !is_amount(amount) {
             return Err(Answer::BadAmount);
         }
-        let taken = self.value.min(amount);
+        let taken = match self.value.checked_sub(amount) {
+            Some(_) => amount,
+            None if fault == Fault::DrawsWhatIsThere => self.value,
+            None => return Err(Answer::TooFew),
+        };
         self.value -= taken;
         Ok(taken)
     }

@@ -60,10 +60,10 @@ impl Table {
         }
     }
 
-    /// Draw: refusals 1, 2, 4.
-    pub fn draw(&mut self, station: u64, amount: u64) -> Told {
+    /// Draw: refusals 1, 2, 4, 15.
+    pub fn draw(&mut self, station: u64, amount: u64, fault: Fault) -> Told {
         match self.station_at(station) {
-            Ok(place) => self.stations[place].draw(amount),
+            Ok(place) => self.stations[place].draw(amount, fault),
             Err(answer) => Told::refused(answer),
         }
     }

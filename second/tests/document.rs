@@ -12,16 +12,16 @@ const WORKED_OUTPUT: &str = "1 0 10
 3 0 0
 4 0 1
 5 0 0
-6 0 5
+6 15 0
 7 0 2
 8 0 5
 9 0 0
 10 0 0
 11 3 0
-station 0 value 0 source 1 destination 0
+station 0 value 5 source 1 destination 0
 station 1 value 5 source 0 destination 1
 on the way 0
-total 5
+total 10
 ";
 
 const RECORD: [u8; 30] =
@@ -57,6 +57,39 @@ fn run(script: &str) -> String {
 fn worked_script() {
     assert_eq!(run(WORKED), WORKED_OUTPUT);
     assert_eq!(run(&format!("{WORKED}/")), WORKED_OUTPUT);
+}
+
+/// A draw at station 1 with this value: answer, result, and the value left.
+fn draw(value: u64, amount: u64) -> (u64, u64, u64) {
+    let mut drawer = station(value);
+    let told = drawer.draw(amount, Fault::None);
+    (told.answer.number(), told.result, drawer.value)
+}
+
+#[test]
+fn a_draw_is_all_or_none() {
+    assert_eq!(draw(5, 5), (0, 5, 0));
+    assert_eq!(draw(5, 6), (15, 0, 5));
+    assert_eq!(draw(0, 1), (15, 0, 0));
+}
+
+#[test]
+fn a_draw_looks_for_1_and_4_before_15() {
+    assert_eq!(draw(5, 0), (4, 0, 5));
+    assert_eq!(draw(5, 1_000_000_001), (4, 0, 5));
+    assert_eq!(draw(5, 1_000_000_000), (15, 0, 5));
+    assert_eq!(draw(MOST_VALUE + 1, 0), (1, 0, MOST_VALUE + 1));
+    let mut unsound = Station { count: 17, ..station(5) };
+    assert_eq!(unsound.draw(6, Fault::None), Told::refused(Answer::NotSound));
+}
+
+#[test]
+fn a_table_looks_for_2_before_4_and_15() {
+    let (_, mut table) = Table::fresh(2);
+    for amount in [0, 1, 1_000_000_001] {
+        assert_eq!(table.draw(2, amount, Fault::None), Told::refused(Answer::NotBelowCount));
+    }
+    assert_eq!(table.draw(1, 1, Fault::None), Told::refused(Answer::TooFew));
 }
 
 #[test]

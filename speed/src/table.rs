@@ -243,9 +243,11 @@ impl Table {
             return Err(4);
         }
         let s = &mut self.stations[k as usize];
-        let taken = s.value.min(amount);
-        s.value -= taken;
-        Ok(taken)
+        if s.value < amount {
+            return Err(15);
+        }
+        s.value -= amount;
+        Ok(amount)
     }
 
     fn send(&mut self, from: u64, to: u64) -> Result<u64, u8> {

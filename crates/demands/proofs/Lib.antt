@@ -5,6 +5,7 @@ pub mod WrongsOut
 pub mod Shared
 pub mod PrintedRun
 pub mod NamedCases
+pub mod AllOrNone
 pub mod WorkedScript
 pub mod Done
 pub mod Orders

@@ -1,10 +1,11 @@
--- Every named case, every case at a bound and every case for rule 4 gives what it has to give.
--- Assumes nothing.
+-- Every named case, every case at a bound, every case for rule 4 and every case for a draw gives
+-- what it has to give. Assumes nothing.
 use mathlib.Core.Path.{_≡_, refl}
 use mathlib.Core.List.{map}
 use Rattle.handshake.specs.Sums.{sumBelow}
 use Rattle.rules.specs.Below.{allBelow}
 use Rattle.station.specs.Sound.{stationSound, messageSound}
+use Rattle.rules.specs.Stock.{drawnFrom}
 use Rattle.rules.specs.Taking.{takeOf}
 use Rattle.station.specs.Steps.{addOf, drawOf, showOf, receiveOf}
 use Rattle.record.specs.Numbers.{big, numberAt}
@@ -20,6 +21,7 @@ use Rattle.demands.specs.Cases.{Case}
 use Rattle.demands.specs.BoundCases.{boundCases}
 use Rattle.demands.specs.NamedCases.{namedCases}
 use Rattle.demands.specs.SpentTokens.{spentTokens}
+use Rattle.demands.specs.DrawCases.{drawCases}
 
 pub named-cases-hold : map (λ (c : Case). c .gives) namedCases ≡ map (λ (c : Case). c .wanted) namedCases
 unfolding showOf receiveOf takeOf stationSound messageSound allBelow bytesOf big numberAt fieldAt isRecord readAt receiveBytesOf firstFrom tableSound seatsTo freshOf stepOf logOf
@@ -32,3 +34,7 @@ bound-cases-hold = refl
 pub spent-tokens-hold : map (λ (c : Case). c .gives) spentTokens ≡ map (λ (c : Case). c .wanted) spentTokens
 unfolding receiveOf takeOf stationSound messageSound allBelow
 spent-tokens-hold = refl
+
+pub draw-cases-hold : map (λ (c : Case). c .gives) drawCases ≡ map (λ (c : Case). c .wanted) drawCases
+unfolding drawnFrom drawOf stationSound messageSound allBelow tableSound seatsTo freshOf stepOf
+draw-cases-hold = refl

@@ -32,6 +32,10 @@ filledTo value = let r = receiveOf (station1 value 0 1 (slot 0 0 5) NoToken) (fr
 abbrev addedTo : ℕ → ℕ → List ℕ
 addedTo value amount = let r = addOf (putStock (blank 1 2) value 0) amount in r .answer ∷ r .result ∷ []
 
+-- a station that holds 16,000,000,000, and draws
+abbrev drawnFrom : ℕ → List ℕ
+drawnFrom amount = let r = drawOf (putStock (blank 1 2) 16000000000 0) amount in r .answer ∷ r .result ∷ []
+
 -- whether each is sound
 abbrev stations : Station → Station → List (List ℕ)
 stations right wrong = truth (stationSound right) ∷ truth (stationSound wrong) ∷ []
@@ -118,8 +122,8 @@ boundCases =
       wanted = (4 ∷ 0 ∷ []) ∷ (0 ∷ 1000000000 ∷ []) ∷ (4 ∷ 0 ∷ []) ∷ [];
     }
     ∷ record {
-      gives = (drawOf (blank 1 2) 0 .answer ∷ drawOf (blank 1 2) 1000000000 .answer ∷ drawOf (blank 1 2) 1000000001 .answer ∷ []) ∷ [];
-      wanted = (4 ∷ 0 ∷ 4 ∷ []) ∷ [];
+      gives = drawnFrom 0 ∷ drawnFrom 1000000000 ∷ drawnFrom 1000000001 ∷ [];
+      wanted = (4 ∷ 0 ∷ []) ∷ (0 ∷ 1000000000 ∷ []) ∷ (4 ∷ 0 ∷ []) ∷ [];
     }
     -- an add that brings a value to 16,000,000,000, and one above: done, 10
     ∷ record { gives = addedTo 15999999998 2 ∷ addedTo 15999999998 3 ∷ []; wanted = (0 ∷ 16000000000 ∷ []) ∷ (10 ∷ 0 ∷ []) ∷ [] }

@@ -142,13 +142,13 @@ pub record Demand1 : Type 0 where
   pub rules·take : (x : Side) (m : Message) → RefusedSide x (takenOf x m)
   -- 1, 4, 5, 10: value and intake are as they were
   pub rules·add-to : (value intake amount : ℕ) → RefusedStock value intake (addedTo value intake amount)
-  -- 1, 4: value and intake are as they were
+  -- 1, 4, 15: value and intake are as they were
   pub rules·draw-from : (value intake amount : ℕ) → RefusedStock value intake (drawnFrom value intake amount)
   -- 1, 2: a refused making is no station
   pub station·fresh : (number count : ℕ) → RefusedAs noStation (freshOf number count)
   -- 1, 4, 5, 10: the station is as it was
   pub station·add : (s : Station) (amount : ℕ) → RefusedAs s (addOf s amount)
-  -- 1, 4: the station is as it was
+  -- 1, 4, 15: the station is as it was
   pub station·draw : (s : Station) (amount : ℕ) → RefusedAs s (drawOf s amount)
   -- 1, 2, 3: no message is shown
   pub station·message-for : (s : Station) (to : ℕ) → RefusedShown (showOf s to)
@@ -172,7 +172,7 @@ pub record Demand1 : Type 0 where
   -- 1, 4, 5, 10: the station's numbers are as they were
   pub quynhabet·qb-station-add : (station : List ℕ) (amount : ℕ) (r : Told) (station′ : List ℕ)
       → Adds station amount r station′ → RefusedNumbers station r station′
-  -- 1, 4: the station's numbers are as they were
+  -- 1, 4, 15: the station's numbers are as they were
   pub quynhabet·qb-station-draw : (station : List ℕ) (amount : ℕ) (r : Told) (station′ : List ℕ)
       → Draws station amount r station′ → RefusedNumbers station r station′
   -- 1, 2, 3, 14: every byte of the buffer is as it was

@@ -42,13 +42,13 @@ doneAnswers =
     -- add_to
     ∷ addedTo 3 3 4 .answer
     -- draw_from
-    ∷ drawnFrom 3 3 5 .answer
+    ∷ drawnFrom 3 3 2 .answer
     -- fresh
     ∷ freshStation 1 2 .answer
     -- add
     ∷ addOf stocked 4 .answer
     -- draw
-    ∷ drawOf stocked 5 .answer
+    ∷ drawOf stocked 2 .answer
     -- message_for
     ∷ showOf gave 0 .answer
     -- receive
@@ -65,7 +65,7 @@ doneAnswers =
     ∷ freshOf 2 .answer
     -- step: an add, a draw, a send, a delivery and a loss
     ∷ stepOf empty (Add 0 10) .answer
-    ∷ stepOf empty (Draw 0 10) .answer
+    ∷ stepOf (stepOf empty (Add 0 10) .table) (Draw 0 10) .answer
     ∷ stepOf empty (Send 0 1) .answer
     ∷ stepOf waiting (Deliver 0) .answer
     ∷ stepOf waiting (Lose 0) .answer

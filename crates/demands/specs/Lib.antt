@@ -18,4 +18,6 @@ pub mod Done
 pub mod Lent
 pub mod BoundCases
 pub mod SpentTokens
+pub mod DrawCases
+pub mod AllOrNone
 pub mod Orders

@@ -1,5 +1,6 @@
 -- The numbers of each list of refusals, from which an answer is computed, beside the order that
--- document 01 prints for it; and what each entry point and step can then answer.
+-- document 01 prints for it, with 15 last in a draw's; and what each entry point and step can then
+-- answer.
 use Prim.Native.Nat.{ℕ}
 use mathlib.Core.List.{List, [], _∷_, List·Memᴰ}
 use Rattle.rules.specs.declared.message.Message.{Message}
@@ -44,7 +45,7 @@ abbrev pub orders : Station → Table → Message → Side → List Place → Ru
 orders s t m x pool run bytes i j k =
     -- the steps of a table: add, draw, send, deliver, lose
     order (stepRefusals t (Add i j)) (1 ∷ 2 ∷ 4 ∷ 5 ∷ 10 ∷ [])
-    ∷ order (stepRefusals t (Draw i j)) (1 ∷ 2 ∷ 4 ∷ [])
+    ∷ order (stepRefusals t (Draw i j)) (1 ∷ 2 ∷ 4 ∷ 15 ∷ [])
     ∷ order (stepRefusals t (Send i j)) (1 ∷ 2 ∷ 3 ∷ 6 ∷ [])
     ∷ order (stepRefusals t (Deliver i)) (1 ∷ 7 ∷ 8 ∷ 10 ∷ [])
     ∷ order (stepRefusals t (Lose i)) (1 ∷ 7 ∷ 8 ∷ [])
@@ -53,7 +54,7 @@ orders s t m x pool run bytes i j k =
     ∷ order (writeRefusals m i) (9 ∷ 14 ∷ [])
     -- at one station: add, draw, write its message for another
     ∷ order (addRefusals s i) (1 ∷ 4 ∷ 5 ∷ 10 ∷ [])
-    ∷ order (drawRefusals s i) (1 ∷ 4 ∷ [])
+    ∷ order (drawRefusals s i) (1 ∷ 4 ∷ 15 ∷ [])
     ∷ order (writeForRefusals s i j) (1 ∷ 2 ∷ 3 ∷ 14 ∷ [])
     -- making a fresh table, a fresh station
     ∷ order (freshTableRefusals i) (1 ∷ [])
@@ -71,7 +72,7 @@ orders s t m x pool run bytes i j k =
     -- the rules at one side: no station numbers. An add and a draw to a stock
     ∷ order (takeRefusals x m) (1 ∷ 9 ∷ 10 ∷ [])
     ∷ order (addToRefusals i j k) (1 ∷ 4 ∷ 5 ∷ 10 ∷ [])
-    ∷ order (drawFromRefusals i j k) (1 ∷ 4 ∷ [])
+    ∷ order (drawFromRefusals i j k) (1 ∷ 4 ∷ 15 ∷ [])
     -- a script: an overlong one is tested first, then its first line, then the count; and the two
     -- calls that put its output
     ∷ order (startRefusals bytes) (13 ∷ 12 ∷ 1 ∷ [])
@@ -88,7 +89,7 @@ OneOf answer numbers = List·Memᴰ answer (done ∷ numbers)
 -- what each entry point and step can answer
 pub record Answers : Type 0 where
   pub add-step : (t : Table) (k amount : ℕ) → OneOf (stepOf t (Add k amount) .answer) (1 ∷ 2 ∷ 4 ∷ 5 ∷ 10 ∷ [])
-  pub draw-step : (t : Table) (k amount : ℕ) → OneOf (stepOf t (Draw k amount) .answer) (1 ∷ 2 ∷ 4 ∷ [])
+  pub draw-step : (t : Table) (k amount : ℕ) → OneOf (stepOf t (Draw k amount) .answer) (1 ∷ 2 ∷ 4 ∷ 15 ∷ [])
   pub send-step : (t : Table) (from to : ℕ) → OneOf (stepOf t (Send from to) .answer) (1 ∷ 2 ∷ 3 ∷ 6 ∷ [])
   pub deliver-step : (t : Table) (p : ℕ) → OneOf (stepOf t (Deliver p) .answer) (1 ∷ 7 ∷ 8 ∷ 10 ∷ [])
   pub lose-step : (t : Table) (p : ℕ) → OneOf (stepOf t (Lose p) .answer) (1 ∷ 7 ∷ 8 ∷ [])
@@ -100,7 +101,7 @@ pub record Answers : Type 0 where
   pub lose-in : (pool : List Place) (p : ℕ) → OneOf (loseInTold pool p .answer) (1 ∷ 7 ∷ 8 ∷ [])
   pub fresh : (number count : ℕ) → OneOf (freshOf number count .answer) (1 ∷ 2 ∷ [])
   pub add : (s : Station) (amount : ℕ) → OneOf (addOf s amount .answer) (1 ∷ 4 ∷ 5 ∷ 10 ∷ [])
-  pub draw : (s : Station) (amount : ℕ) → OneOf (drawOf s amount .answer) (1 ∷ 4 ∷ [])
+  pub draw : (s : Station) (amount : ℕ) → OneOf (drawOf s amount .answer) (1 ∷ 4 ∷ 15 ∷ [])
   pub message-for : (s : Station) (to : ℕ) → OneOf (showOf s to .answer) (1 ∷ 2 ∷ 3 ∷ [])
   pub receive : (s : Station) (m : Message) → OneOf (receiveOf s m .answer) (1 ∷ 9 ∷ 2 ∷ 11 ∷ 10 ∷ [])
   pub read : (bytes : List ℕ) → OneOf (readOf bytes .answer) (9 ∷ [])
@@ -110,11 +111,11 @@ pub record Answers : Type 0 where
       → WritesFor s to before r after → OneOf (r .answer) (1 ∷ 2 ∷ 3 ∷ 14 ∷ [])
   pub take : (x : Side) (m : Message) → OneOf (takenOf x m .answer) (1 ∷ 9 ∷ 10 ∷ [])
   pub add-to : (value intake amount : ℕ) → OneOf (addedTo value intake amount .answer) (1 ∷ 4 ∷ 5 ∷ 10 ∷ [])
-  pub draw-from : (value intake amount : ℕ) → OneOf (drawnFrom value intake amount .answer) (1 ∷ 4 ∷ [])
+  pub draw-from : (value intake amount : ℕ) → OneOf (drawnFrom value intake amount .answer) (1 ∷ 4 ∷ 15 ∷ [])
   pub qb-station-fresh : (number count : ℕ) (station : List ℕ) (r : Told) (station′ : List ℕ) → Makes number count station r station′ → OneOf (r .answer) (1 ∷ 2 ∷ [])
   pub qb-station-check : (station : List ℕ) → OneOf (checkOf station .answer) (1 ∷ [])
   pub qb-station-add : (station : List ℕ) (amount : ℕ) (r : Told) (station′ : List ℕ) → Adds station amount r station′ → OneOf (r .answer) (1 ∷ 4 ∷ 5 ∷ 10 ∷ [])
-  pub qb-station-draw : (station : List ℕ) (amount : ℕ) (r : Told) (station′ : List ℕ) → Draws station amount r station′ → OneOf (r .answer) (1 ∷ 4 ∷ [])
+  pub qb-station-draw : (station : List ℕ) (amount : ℕ) (r : Told) (station′ : List ℕ) → Draws station amount r station′ → OneOf (r .answer) (1 ∷ 4 ∷ 15 ∷ [])
   pub qb-station-write : (station : List ℕ) (to : ℕ) (out : List ℕ) (r : Told) (out′ : List ℕ) → Shows station to out r out′ → OneOf (r .answer) (1 ∷ 2 ∷ 3 ∷ 14 ∷ [])
   pub qb-station-receive : (station bytes : List ℕ) (r : Told) (station′ : List ℕ)
       → Receives station bytes r station′ → OneOf (r .answer) (1 ∷ 9 ∷ 2 ∷ 11 ∷ 10 ∷ [])

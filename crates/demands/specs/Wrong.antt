@@ -87,9 +87,11 @@ wrongs =
     -- add: tells the amount and not the new value; leaves the intake
     ∷ record { promised = stockOf (addOf stocked 4); wrong = 0 ∷ 4 ∷ 7 ∷ 7 ∷ [] }
     ∷ record { promised = stockOf (addOf stocked 4); wrong = 0 ∷ 7 ∷ 7 ∷ 3 ∷ [] }
-    -- draw: tells an invented amount; refuses where less is there than asked
-    ∷ record { promised = stockOf (drawOf stocked 5); wrong = 0 ∷ 5 ∷ 0 ∷ 3 ∷ [] }
-    ∷ record { promised = stockOf (drawOf stocked 5); wrong = 4 ∷ 0 ∷ 3 ∷ 3 ∷ [] }
+    -- draw: takes less than it tells; gives what is there where more is asked; takes that where it
+    -- refuses
+    ∷ record { promised = stockOf (drawOf stocked 2); wrong = 0 ∷ 3 ∷ 1 ∷ 3 ∷ [] }
+    ∷ record { promised = stockOf (drawOf stocked 5); wrong = 0 ∷ 3 ∷ 0 ∷ 3 ∷ [] }
+    ∷ record { promised = stockOf (drawOf stocked 5); wrong = 15 ∷ 0 ∷ 0 ∷ 3 ∷ [] }
     -- message_for: hides the token; has a message for itself
     ∷ record { promised = messageOf (showOf gave 0 .answer) (showOf gave 0 .message); wrong = 0 ∷ 1 ∷ 0 ∷ 3 ∷ 1 ∷ 0 ∷ [] }
     ∷ record { promised = messageOf (showOf gave 1 .answer) (showOf gave 1 .message); wrong = 0 ∷ 1 ∷ 1 ∷ 3 ∷ 1 ∷ 0 ∷ [] }

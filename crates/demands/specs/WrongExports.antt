@@ -36,9 +36,12 @@ wrongExports =
     -- qb_station_add: leaves the intake; takes numbers in a slot that is not held
     ∷ record { promised = told (addBy 4 three); wrong = 0 ∷ 7 ∷ 0 ∷ 1 ∷ 2 ∷ 7 ∷ 3 ∷ 0 ∷ 0 ∷ [] }
     ∷ record { promised = told (addBy 4 (set three 7 1)); wrong = 0 ∷ 7 ∷ 0 ∷ 1 ∷ 2 ∷ 7 ∷ 7 ∷ 0 ∷ 0 ∷ [] }
-    -- qb_station_draw: tells the amount asked; takes a clock that is too wide
-    ∷ record { promised = told (drawBy 5 three); wrong = 0 ∷ 5 ∷ 0 ∷ 1 ∷ 2 ∷ 0 ∷ 3 ∷ 0 ∷ 0 ∷ [] }
-    ∷ record { promised = told (drawBy 5 (set three 4 4294967296)); wrong = 0 ∷ 3 ∷ 0 ∷ 1 ∷ 2 ∷ 0 ∷ 3 ∷ 4294967296 ∷ 0 ∷ [] }
+    -- qb_station_draw: takes less than it tells; gives what is there where more is asked; takes
+    -- that where it refuses; takes a clock that is too wide
+    ∷ record { promised = told (drawBy 2 three); wrong = 0 ∷ 3 ∷ 0 ∷ 1 ∷ 2 ∷ 1 ∷ 3 ∷ 0 ∷ 0 ∷ [] }
+    ∷ record { promised = told (drawBy 5 three); wrong = 0 ∷ 3 ∷ 0 ∷ 1 ∷ 2 ∷ 0 ∷ 3 ∷ 0 ∷ 0 ∷ [] }
+    ∷ record { promised = told (drawBy 5 three); wrong = 15 ∷ 0 ∷ 0 ∷ 1 ∷ 2 ∷ 0 ∷ 3 ∷ 0 ∷ 0 ∷ [] }
+    ∷ record { promised = told (drawBy 2 (set three 4 4294967296)); wrong = 0 ∷ 2 ∷ 0 ∷ 1 ∷ 2 ∷ 1 ∷ 3 ∷ 4294967296 ∷ 0 ∷ [] }
     -- qb_station_write: tells no length; has written where it refuses
     ∷ record { promised = told (showBy (numbersOf gave) 0 (sevens 49)); wrong = 0 ∷ 0 ∷ 0 ∷ 1 ∷ 0 ∷ 1 ∷ 1 ∷ 2 ∷ 0 ∷ [] }
     ∷ record { promised = told (showBy (numbersOf gave) 0 (sevens 48)); wrong = 14 ∷ 0 ∷ 0 ∷ 1 ∷ 7 ∷ 7 ∷ 7 ∷ 7 ∷ 7 ∷ [] }

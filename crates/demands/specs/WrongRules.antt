@@ -38,9 +38,12 @@ wrongRules =
     -- add_to: tells the amount; adds past the limit of the intake
     ∷ record { promised = stockNumbers (addedTo 3 3 4); wrong = 0 ∷ 4 ∷ 7 ∷ 7 ∷ [] }
     ∷ record { promised = stockNumbers (addedTo 0 mostIntake 1); wrong = 0 ∷ 1 ∷ 1 ∷ 1000000001 ∷ [] }
-    -- draw_from: tells an invented amount; lowers the intake
-    ∷ record { promised = stockNumbers (drawnFrom 3 3 5); wrong = 0 ∷ 5 ∷ 0 ∷ 3 ∷ [] }
-    ∷ record { promised = stockNumbers (drawnFrom 3 3 5); wrong = 0 ∷ 3 ∷ 0 ∷ 0 ∷ [] }
+    -- draw_from: takes less than it tells; lowers the intake; gives what is there where more is
+    -- asked; takes that where it refuses
+    ∷ record { promised = stockNumbers (drawnFrom 3 3 2); wrong = 0 ∷ 3 ∷ 1 ∷ 3 ∷ [] }
+    ∷ record { promised = stockNumbers (drawnFrom 3 3 2); wrong = 0 ∷ 2 ∷ 1 ∷ 1 ∷ [] }
+    ∷ record { promised = stockNumbers (drawnFrom 3 3 5); wrong = 0 ∷ 3 ∷ 0 ∷ 3 ∷ [] }
+    ∷ record { promised = stockNumbers (drawnFrom 3 3 5); wrong = 15 ∷ 0 ∷ 0 ∷ 3 ∷ [] }
     -- in_range of either clock: refuses the last number; refuses 0
     ∷ record { promised = truth (sourceInRange (record { 0 = lastClock })); wrong = 0 ∷ [] }
     ∷ record { promised = truth (sourceInRange (record { 0 = 0 })); wrong = 0 ∷ [] }

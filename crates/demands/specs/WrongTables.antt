@@ -6,7 +6,7 @@ use Rattle.rules.specs.declared.held.HeldSlot.the-variants.{NoSlot}
 use Rattle.rules.specs.declared.held.HeldToken.the-variants.{NoToken}
 use Rattle.rules.specs.declared.message.Message.{Message}
 use Rattle.table.specs.declared.table.Table.{Table}
-use Rattle.steps.specs.declared.asked.Step.the-variants.{Add, Send, Deliver, Lose}
+use Rattle.steps.specs.declared.asked.Step.the-variants.{Add, Draw, Send, Deliver, Lose}
 use Rattle.table.specs.declared.stepped.Stepped.{Stepped}
 use Rattle.pool.specs.declared.places.Waiting.{Waiting}
 use Rattle.pool.specs.declared.places.Waiting.the-variants.{Empty, One}
@@ -69,6 +69,11 @@ wrongTables =
     -- step: an add to the neighbour; a place past the pool that is empty and not missing
     ∷ record { promised = values (stepOf sent (Add 1 5)); wrong = 0 ∷ 15 ∷ 15 ∷ 0 ∷ [] }
     ∷ record { promised = seen (stepOf sent (Deliver 64)); wrong = 8 ∷ 0 ∷ 0 ∷ 1 ∷ 0 ∷ [] }
+    -- step: a draw that takes less than it tells; of what is there where more is asked; that takes
+    -- it where it is refused
+    ∷ record { promised = values (stepOf sent (Draw 0 3)); wrong = 0 ∷ 10 ∷ 7 ∷ 0 ∷ [] }
+    ∷ record { promised = values (stepOf sent (Draw 0 11)); wrong = 0 ∷ 10 ∷ 0 ∷ 0 ∷ [] }
+    ∷ record { promised = values (stepOf sent (Draw 0 11)); wrong = 15 ∷ 0 ∷ 0 ∷ 0 ∷ [] }
     -- on_the_way: counts a stored token that no slot waits for; answers an unsound table
     ∷ record { promised = let r = wayAsked stored in r .answer ∷ r .result ∷ []; wrong = 0 ∷ 5 ∷ [] }
     ∷ record { promised = wayAsked (freshOf 1 .table) .answer ∷ []; wrong = 0 ∷ [] }

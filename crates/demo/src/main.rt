@@ -46,8 +46,10 @@ fn main() {
     let gives = carry(b"station 0 hears station 1 and gives", asks, rich);
     let filled = carry(b"station 1 hears station 0 and is filled", gives, asks);
     let again = carry(b"the same record once more", gives, filled);
-    let drawn = station::draw(again, 7);
-    tell(b"station 1 draws 7, and gets what is there", drawn);
+    let refused = station::draw(again, 7);
+    tell(b"station 1 draws 7, which is more than is there", refused);
+    let drawn = station::draw(refused.station, 3);
+    tell(b"station 1 draws 3", drawn);
     tell_station(gives);
     tell_station(drawn.station);
 }

@@ -14,12 +14,12 @@ use Rattle.rules.specs.declared.side.Side.{Side}
 use Rattle.rules.specs.declared.stock.Stock.{Stock}
 use Rattle.rules.specs.declared.taking.Taken.{Taken}
 use Rattle.rules.specs.Limits.{mostAmount, mostIntake, mostValue}
-use Rattle.rules.specs.Answers.{done}
+use Rattle.rules.specs.Answers.{done, notSound, badAmount, tooFew}
 use Rattle.rules.specs.Report.{noReport}
 use Rattle.rules.specs.Refusals.{Refusal, first, answerOf, numbersIn}
 use Rattle.rules.specs.Rules.{fill}
 use Rattle.rules.specs.Taking.{tokenSmall, messageSmall, tokenFits, takeOf, takeRefusals, takeAnswer, takenBy, takenOf, Takes}
-use Rattle.rules.specs.Stock.{stockSound, amountSound, stocked, addToRefusals, addToAnswer, addDone, addedTo, drawFromRefusals, drawFromAnswer, drawDone, drawnFrom}
+use Rattle.rules.specs.Stock.{stockSound, amountSound, stocked, addToRefusals, addToAnswer, addDone, addedTo, drawFromRefusals, drawFromAnswer, drawDone, drawnFrom, refusedStock}
 use Rattle.rules.proofs.Below.{both-hold}
 
 -- an answer of 0 has passed its first test
@@ -51,7 +51,7 @@ amount-small amount e = leb-true _ _ (both-hold (leb 1 amount) _ e .1)
 pub stock-done : {n : ℕ} (value intake : ℕ) (d : Stock) → n ≡ 0 → d ≡ stocked n value intake d
 stock-done value intake d e = rw e
 
-pub stock-refused : (n value intake : ℕ) (d : Stock) → (n ≡ 0 → ⊥) → record { answer = n; result = 0; value = value; intake = intake } ≡ stocked n value intake d
+pub stock-refused : (n value intake : ℕ) (d : Stock) → (n ≡ 0 → ⊥) → refusedStock n value intake ≡ stocked n value intake d
 stock-refused zero value intake d f = absurd (f refl)
 stock-refused (suc n) value intake d f = refl
 
@@ -67,6 +67,25 @@ add-to-tells value intake amount = stock-answer (addToAnswer value intake amount
 pub draw-from-tells : (value intake amount : ℕ) → drawnFrom value intake amount .answer ≡ answerOf (drawFromRefusals value intake amount)
 unfolding drawnFrom
 draw-from-tells value intake amount = stock-answer (drawFromAnswer value intake amount) value intake (drawDone value intake amount) refl
+
+-- a draw by what was found, the first of its refusals or none
+module _ (value intake amount : ℕ) where
+  pub draw-unsound : stockSound value intake ≡ false → refusedStock notSound value intake ≡ drawnFrom value intake amount
+  unfolding drawnFrom
+  draw-unsound s = rw s
+
+  module _ (s : stockSound value intake ≡ true) where
+    pub draw-bad : amountSound amount ≡ false → refusedStock badAmount value intake ≡ drawnFrom value intake amount
+    unfolding drawnFrom
+    draw-bad a = rw (s, a)
+
+    pub draw-few : amountSound amount ≡ true → ltb value amount ≡ true → refusedStock tooFew value intake ≡ drawnFrom value intake amount
+    unfolding drawnFrom
+    draw-few a few = rw (s, a, few)
+
+    pub draw-all : amountSound amount ≡ true → ltb value amount ≡ false → drawDone value intake amount ≡ drawnFrom value intake amount
+    unfolding drawnFrom
+    draw-all a few = rw (s, a, few)
 
 pub taken-done : {n : ℕ} (x : Side) (t : Taken) → n ≡ 0 → t ≡ takenBy n x t
 taken-done x t e = rw e

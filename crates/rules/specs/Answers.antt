@@ -59,3 +59,7 @@ longScript = 13
 -- the output buffer is shorter than the record
 abbrev pub shortBuffer : ℕ
 shortBuffer = 14
+
+-- fewer passes can be drawn than asked
+abbrev pub tooFew : ℕ
+tooFew = 15

@@ -1,12 +1,12 @@
 -- What an add and a draw do to a stock of passes: a value, and the intake, which is all that was
 -- ever added.
-use Prim.Native.Nat.{ℕ, zero, suc, _+_, _-_, min}
+use Prim.Native.Nat.{ℕ, zero, suc, _+_, _-_}
 use mathlib.Core.Bool.{Bool, not, _&&_}
 use mathlib.Core.List.{List, [], _∷_}
 use lib.Dec.{ltb, leb}
 use Rattle.rules.specs.declared.stock.Stock.{Stock}
 use Rattle.rules.specs.Limits.{mostAmount, mostIntake, mostValue}
-use Rattle.rules.specs.Answers.{done, notSound, badAmount, intakeLimit, valueLimit}
+use Rattle.rules.specs.Answers.{done, notSound, badAmount, intakeLimit, valueLimit, tooFew}
 use Rattle.rules.specs.Refusals.{Refusal, when, answerOf}
 
 -- value and intake are in range
@@ -17,11 +17,14 @@ stockSound value intake = leb value mostValue && leb intake mostIntake
 abbrev pub amountSound : ℕ → Bool
 amountSound amount = leb 1 amount && leb amount mostAmount
 
--- answer 0 is the stock as it then is; any other is a refusal, with result 0 and the stock as it
--- was
+-- a refusal: result 0, and the stock as it was
+abbrev pub refusedStock : ℕ → ℕ → ℕ → Stock
+refusedStock answer value intake = record { answer = answer; result = 0; value = value; intake = intake }
+
+-- answer 0 is the stock as it then is; any other is a refusal
 abbrev pub stocked : ℕ → ℕ → ℕ → Stock → Stock
 stocked zero value intake later = later
-stocked (suc n) value intake later = record { answer = suc n; result = 0; value = value; intake = intake }
+stocked (suc n) value intake later = refusedStock (suc n) value intake
 
 -- Add raises value and intake. Result: the new value.
 abbrev pub addToRefusals : ℕ → ℕ → ℕ → List Refusal
@@ -41,17 +44,19 @@ addDone value intake amount = record { answer = done; result = value + amount; v
 unfoldable pub addedTo : ℕ → ℕ → ℕ → Stock
 addedTo value intake amount = stocked (addToAnswer value intake amount) value intake (addDone value intake amount)
 
--- Draw takes the smaller of the value and the amount asked. Result: what was taken, which may be 0.
+-- Draw takes the amount asked, all or none of it. Result: the amount.
 abbrev pub drawFromRefusals : ℕ → ℕ → ℕ → List Refusal
-drawFromRefusals value intake amount = when (not (stockSound value intake)) notSound ∷ when (not (amountSound amount)) badAmount ∷ []
+drawFromRefusals value intake amount =
+    when (not (stockSound value intake)) notSound
+    ∷ when (not (amountSound amount)) badAmount
+    ∷ when (ltb value amount) tooFew
+    ∷ []
 
 abbrev pub drawFromAnswer : ℕ → ℕ → ℕ → ℕ
 drawFromAnswer value intake amount = answerOf (drawFromRefusals value intake amount)
 
 abbrev pub drawDone : ℕ → ℕ → ℕ → Stock
-drawDone value intake amount =
-    let taken = min value amount in
-    record { answer = done; result = taken; value = value - taken; intake = intake }
+drawDone value intake amount = record { answer = done; result = amount; value = value - amount; intake = intake }
 
 unfoldable pub drawnFrom : ℕ → ℕ → ℕ → Stock
 drawnFrom value intake amount = stocked (drawFromAnswer value intake amount) value intake (drawDone value intake amount)

@@ -28,3 +28,5 @@ pub const BAD_LINE: u8 = 12;
 pub const LONG_SCRIPT: u8 = 13;
 // The output buffer is shorter than the record.
 pub const SHORT_BUFFER: u8 = 14;
+// Fewer passes can be drawn than asked.
+pub const TOO_FEW: u8 = 15;

@@ -1,7 +1,7 @@
 // What an add and a draw do to a stock of passes: a value, and the intake, which is all that was
 // ever added.
 ghost use mathlib.Core.Path.{_≡_};
-ghost use Rattle.rules.specs.Stock.{stockSound, amountSound, addToAnswer, addedTo, drawFromAnswer, drawnFrom};
+ghost use Rattle.rules.specs.Stock.{stockSound, amountSound, refusedStock, addToAnswer, addedTo, drawnFrom};
 use crate::answers;
 use crate::limits::MOST_AMOUNT;
 use crate::limits::MOST_INTAKE;
@@ -25,6 +25,18 @@ fn amount_is_sound(amount: u64) -> bool
     ensures { λ r. ⌜ r ≡ amountSound amount ⌝ }
 {
     (1 <= amount) & (amount <= MOST_AMOUNT)
+}
+
+// A refusal: result 0, and the stock as it was.
+fn refuse(answer: u8, value: u64, intake: u64) -> Stock
+    ensures { λ r. ⌜ r ≡ refusedStock answer value intake ⌝ }
+{
+    Stock {
+        answer,
+        result: 0,
+        value,
+        intake,
+    }
 }
 
 fn add_to_answer(value: u64, intake: u64, amount: u64) -> u8
@@ -51,12 +63,7 @@ pub fn add_to(value: u64, intake: u64, amount: u64) -> Stock
 {
     let answer = add_to_answer(value, intake, amount);
     if answer != answers::DONE {
-        return Stock {
-            answer,
-            result: 0,
-            value,
-            intake,
-        };
+        return refuse(answer, value, intake);
     }
     let more = value + amount;
     Stock {
@@ -67,34 +74,23 @@ pub fn add_to(value: u64, intake: u64, amount: u64) -> Stock
     }
 }
 
-fn draw_from_answer(value: u64, intake: u64, amount: u64) -> u8
-    ensures { λ r. ⌜ r ≡ drawFromAnswer value intake amount ⌝ }
-{
-    if !stock_is_sound(value, intake) {
-        return answers::NOT_SOUND;
-    }
-    if !amount_is_sound(amount) {
-        return answers::BAD_AMOUNT;
-    }
-    answers::DONE
-}
-
-// Takes the smaller of the value and the amount: refused by 1, 4.
+// Takes the amount, all or none of it: refused by 1, 4, 15.
 pub fn draw_from(value: u64, intake: u64, amount: u64) -> Stock
     ensures { λ r. ⌜ r ≡ drawnFrom value intake amount ⌝ }
 {
-    let answer = draw_from_answer(value, intake, amount);
-    if answer != answers::DONE {
-        return Stock {
-            answer,
-            result: 0,
-            value,
-            intake,
-        };
+    if !stock_is_sound(value, intake) {
+        return refuse(answers::NOT_SOUND, value, intake);
     }
+    if !amount_is_sound(amount) {
+        return refuse(answers::BAD_AMOUNT, value, intake);
+    }
+    // never more than is there, so that nothing goes below 0
     let taken = smaller(value, amount);
+    if taken < amount {
+        return refuse(answers::TOO_FEW, value, intake);
+    }
     Stock {
-        answer,
+        answer: answers::DONE,
         result: taken,
         value: value - taken,
         intake,

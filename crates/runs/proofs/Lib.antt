@@ -12,10 +12,12 @@ pub mod StockSteps
 pub mod PlaceSteps
 pub mod DeliverStep
 pub mod FreshReached
+pub mod AnyBuild
 pub mod Demand3
 pub mod WorkedRun
 pub mod Teeth
 pub mod RightParts
+pub mod WhatIsThere
 pub mod Tested
 pub mod Alone
 pub mod EachTooth

@@ -3,30 +3,34 @@
 -- builds the right build has every pass. Assumes nothing.
 use Prim.Native.Nat.{ℕ, _+_}
 use mathlib.Core.Path.{_≡_, refl}
-use mathlib.Core.Bool.{true}
+use mathlib.Core.Bool.{Bool, true, false, cond, not}
 use mathlib.Core.List.{List, [], _∷_, map}
+use lib.Dec.{ltb}
 use Rattle.handshake.specs.History.{departure, transfer}
 use Rattle.handshake.specs.Sums.{sumBelow}
 use Rattle.rules.specs.Below.{allBelow}
 use Rattle.station.specs.Sound.{stationSound, messageSound}
+use Rattle.rules.specs.Stock.{amountSound}
 use Rattle.rules.specs.Taking.{takeOf}
 use Rattle.station.specs.Steps.{addOf, drawOf, showOf, receiveOf}
 use Rattle.pool.specs.declared.places.Waiting.{Waiting}
 use Rattle.pool.specs.declared.places.Waiting.the-variants.{Empty, One}
 use Rattle.steps.specs.declared.asked.Step.{Step}
 use Rattle.steps.specs.declared.asked.Step.the-variants.{Add, Draw, Send, Deliver, Lose}
+use Rattle.table.specs.declared.stepped.Stepped.{Stepped}
 use Rattle.table.specs.declared.table.Table.{Table}
 use Rattle.pool.specs.Pool.{firstFrom}
-use Rattle.table.specs.Table.{waitingAt}
+use Rattle.table.specs.Table.{stationAt, waitingAt}
 use Rattle.table.specs.Sound.{tableSound}
 use Rattle.table.specs.Fresh.{seatsTo, freshOf}
-use Rattle.steps.specs.Steps.{delivered, stepOf}
+use Rattle.table.specs.Stepped.{answeredStep}
+use Rattle.steps.specs.Steps.{delivered, stepDone, stepOf}
 use Rattle.table.specs.Way.{atStations, onTheWay}
 use Rattle.runs.specs.Runs.{logOf, tableAfter, added, drawn, historyOf, amounting}
-use Rattle.runs.specs.Builds.{rightTaking, rightDrawing, deliveredBy, builtWith, deliversBy, deliversUnasked, drawsBy}
-use Rattle.runs.specs.Broken.{oldToken, slotAgain, tokenComes, tokenOfNothing, nothingAgain, overdrawn}
+use Rattle.runs.specs.Builds.{rightTaking, rightDrawing, deliveredBy, builtWith, deliversBy, deliversUnasked, drawsBy, drawsFewBy, toldFew, rightFew}
+use Rattle.runs.specs.Broken.{oldToken, slotAgain, tokenComes, tokenOfNothing, nothingAgain, partDrawn, overdrawn}
 
-delivers-right : (t : Table) (w : Waiting) → deliveredBy rightTaking t w ≡ delivered t w
+pub delivers-right : (t : Table) (w : Waiting) → deliveredBy rightTaking t w ≡ delivered t w
 unfolding takeOf
 delivers-right t Empty = refl
 delivers-right t (One m) = refl
@@ -42,6 +46,25 @@ right-taking t (Lose p) = refl
 pub right-draw : (t : Table) (step : Step) → drawsBy rightDrawing t step ≡ stepOf t step
 right-draw t step = right-taking t step
 
+-- what is refused is refused first or where it is found
+few-told : (unsound past bad few : Bool) (t : Table) (d : Stepped)
+    → answeredStep (cond unsound 1 (cond past 2 (cond bad 4 0))) t (cond few (toldFew t) d)
+    ≡ answeredStep (cond unsound 1 (cond past 2 (cond bad 4 (cond few 15 0)))) t d
+few-told true past bad few t d = refl
+few-told false true bad few t d = refl
+few-told false false true few t d = refl
+few-told false false false true t d = refl
+few-told false false false false t d = refl
+
+pub right-few : (t : Table) (step : Step) → drawsFewBy rightFew t step ≡ stepOf t step
+unfolding builtWith stepOf
+right-few t (Add k amount) = refl
+right-few t (Draw k amount) =
+    few-told (not (tableSound t)) (not (ltb k (t .count))) (not (amountSound amount)) (ltb (stationAt t k .value) amount) t (stepDone t (Draw k amount))
+right-few t (Send from to) = refl
+right-few t (Deliver p) = rw (delivers-right t (waitingAt t p))
+right-few t (Lose p) = refl
+
 -- the passes that are there and those drawn, and all that were added
 abbrev balanceOf : List Step → List ℕ
 balanceOf steps =
@@ -49,8 +72,8 @@ balanceOf steps =
     let log = logOf stepOf (freshOf 2 .table) steps in
     (atStations t + onTheWay t + drawn log) ∷ added log ∷ []
 
-pub right-balances : map balanceOf (oldToken ∷ slotAgain ∷ tokenComes ∷ nothingAgain ∷ overdrawn ∷ [])
-    ≡ (10 ∷ 10 ∷ []) ∷ (10 ∷ 10 ∷ []) ∷ (10 ∷ 10 ∷ []) ∷ (10 ∷ 10 ∷ []) ∷ (10 ∷ 10 ∷ []) ∷ []
+pub right-balances : map balanceOf (oldToken ∷ slotAgain ∷ tokenComes ∷ nothingAgain ∷ partDrawn ∷ overdrawn ∷ [])
+    ≡ (10 ∷ 10 ∷ []) ∷ (10 ∷ 10 ∷ []) ∷ (10 ∷ 10 ∷ []) ∷ (10 ∷ 10 ∷ []) ∷ (10 ∷ 10 ∷ []) ∷ (10 ∷ 10 ∷ []) ∷ []
 unfolding addOf drawOf showOf receiveOf takeOf stationSound messageSound allBelow firstFrom tableSound seatsTo freshOf stepOf sumBelow logOf tableAfter added drawn
 right-balances = refl
 

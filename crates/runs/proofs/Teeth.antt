@@ -14,7 +14,7 @@ use Rattle.table.specs.Fresh.{seatsTo, freshOf}
 use Rattle.runs.specs.Runs.{logOf, tableAfter, added, drawn, historyOf, amounting}
 use Rattle.runs.specs.Demand3.{Demand3}
 use Rattle.runs.specs.Builds.{builtWith}
-use Rattle.runs.specs.Broken.{oneClock, oldToken, slotUnseen, slotAgain, slotFirst, tokenComes, clockStands, tokenOfNothing, clockStandsUnasked, nothingAgain, inventedDraw, overdrawn}
+use Rattle.runs.specs.Broken.{oneClock, oldToken, slotUnseen, slotAgain, slotFirst, tokenComes, clockStands, tokenOfNothing, clockStandsUnasked, nothingAgain, drawTellsMore, partDrawn, refusedDrawTakes, overdrawn}
 
 -- 1. 10 were added and 15 are there: the old token was filled twice
 pub one-clock-fails : Demand3 oneClock (freshOf 2 .table) → ⊥
@@ -44,7 +44,12 @@ clock-stands-unasked-fails d =
     eqb-false 0 1 refl
     (d .accounted nothingAgain .pairing .one-departure 0 1 x x refl refl (record { maker = refl; receiver = refl; source = refl; destination = refl }))
 
--- 5. 10 were added and 20 are said to be drawn
-pub invented-draw-fails : Demand3 inventedDraw (freshOf 2 .table) → ⊥
+-- 5. 10 were added; 7 are there, and 10 are said to be drawn
+pub draw-tells-more-fails : Demand3 drawTellsMore (freshOf 2 .table) → ⊥
 unfolding addOf drawOf showOf stationSound messageSound allBelow firstFrom tableSound seatsTo freshOf sumBelow builtWith logOf tableAfter added drawn
-invented-draw-fails d = eqb-false 20 10 refl (d .accounted overdrawn .passes)
+draw-tells-more-fails d = eqb-false 17 10 refl (d .accounted partDrawn .passes)
+
+-- 6. 10 were added; none is there, and none is said to be drawn
+pub refused-draw-takes-fails : Demand3 refusedDrawTakes (freshOf 2 .table) → ⊥
+unfolding addOf drawOf showOf stationSound messageSound allBelow firstFrom tableSound seatsTo freshOf sumBelow builtWith logOf tableAfter added drawn
+refused-draw-takes-fails d = eqb-false 0 10 refl (d .accounted overdrawn .passes)

@@ -1,6 +1,7 @@
--- Builds with one thing wrong, as it has been got wrong, and for each the steps that show it. (Rule
--- 3 with i's value from before the fill is not among them:
--- it asks for too much, and demand 2 rules it out.)
+-- Builds with one thing wrong, as it has been got wrong, and for each the steps that show it. (Two
+-- are not among them, and demand 2 rules them out: rule 3 with i's value from before the fill,
+-- which asks for too much, and a draw of what is there where more is asked, which is
+-- `whatIsThere`.)
 use Prim.Native.Nat.{ℕ, zero, suc, _+_, _-_, min}
 use mathlib.Core.Bool.{cond, _&&_}
 use mathlib.Core.List.{List, [], _∷_, _++_}
@@ -23,7 +24,7 @@ use Rattle.table.specs.Stepped.{did}
 use Rattle.steps.specs.declared.asked.Step.{Step}
 use Rattle.steps.specs.declared.asked.Step.the-variants.{Add, Draw, Send, Deliver}
 use Rattle.runs.specs.Runs.{Build}
-use Rattle.runs.specs.Builds.{Taking, Drawing, takesBy, deliversBy, deliversUnasked, drawsBy}
+use Rattle.runs.specs.Builds.{Taking, Drawing, takesBy, deliversBy, deliversUnasked, drawsBy, drawsFewBy, toldFew}
 
 -- the steps up to here: station 0 has 10 and shows it, station 1 opens slot (0,0) of 5 and shows
 -- that, at place 1
@@ -101,12 +102,24 @@ clockStandsUnasked = deliversUnasked takesStanding
 abbrev pub nothingAgain : List Step
 nothingAgain = tokenOfNothing ++ (Deliver 1 ∷ [])
 
--- 5. A draw with an invented result: the amount asked, not what was taken.
-abbrev invents : Drawing
-invents t k amount = let s = stationAt t k in did amount noReport (putStation t k (putStock s (s .value - min (s .value) amount) (s .intake)))
+-- 5. A draw that is done and takes less than it tells: it takes the amount, and tells all that was
+-- there.
+abbrev tellsMore : Drawing
+tellsMore t k amount = let s = stationAt t k in did (s .value) noReport (putStation t k (putStock s (s .value - amount) (s .intake)))
 
-abbrev pub inventedDraw : Build
-inventedDraw = drawsBy invents
+abbrev pub drawTellsMore : Build
+drawTellsMore = drawsBy tellsMore
+
+-- a draw of less than is there
+abbrev pub partDrawn : List Step
+partDrawn = Add 0 10 ∷ Draw 0 3 ∷ []
+
+-- 6. A draw that is refused by 15 and takes all the same: what is there is gone.
+abbrev takesRefused : Drawing
+takesRefused t k amount = let s = stationAt t k in toldFew (putStation t k (putStock s 0 (s .intake)))
+
+abbrev pub refusedDrawTakes : Build
+refusedDrawTakes = drawsFewBy takesRefused
 
 -- a draw of more than is there
 abbrev pub overdrawn : List Step

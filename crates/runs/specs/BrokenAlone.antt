@@ -1,5 +1,5 @@
--- For each clause of demand 3 a build, and steps for which that clause alone is false. (An invented
--- draw and a source clock left standing are among the other broken builds.)
+-- For each clause of demand 3 a build, and steps for which that clause alone is false. (A draw that
+-- tells more than it takes, and a source clock left standing, are among the other broken builds.)
 use Prim.Native.Nat.{ℕ, _+_}
 use mathlib.Core.Bool.{Bool, true, false, cond, _||_}
 use mathlib.Core.List.{List, [], _∷_, _++_}

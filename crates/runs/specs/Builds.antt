@@ -1,14 +1,14 @@
 -- Builds put together from given parts, so that one part can be a wrong one. With the right parts
 -- it is the right build.
 use Prim.Native.Nat.{ℕ}
-use mathlib.Core.Bool.{true, not}
+use mathlib.Core.Bool.{true, cond, not}
 use mathlib.Core.List.{List, [], _∷_}
-use lib.Dec.{ltb}
+use lib.Dec.{ltb, eqb}
 use Rattle.rules.specs.declared.message.Message.{Message}
 use Rattle.rules.specs.declared.rules.Ruled.{Ruled}
 use Rattle.rules.specs.declared.side.Side.{Side}
 use Rattle.rules.specs.declared.taking.Taken.{Taken}
-use Rattle.rules.specs.Answers.{notSound, noSuchPlace, emptyPlace}
+use Rattle.rules.specs.Answers.{notSound, noSuchPlace, emptyPlace, tooFew}
 use Rattle.rules.specs.Refusals.{Refusal, when, answerOf}
 use Rattle.rules.specs.Report.{noReport}
 use Rattle.rules.specs.Rules.{fill, dropSlot, openSlot, dropToken, makeToken}
@@ -94,9 +94,28 @@ unasked t (Lose p) = later (stepRefusals t (Lose p))
 abbrev pub deliversUnasked : Taking → Build
 deliversUnasked takes = builtWith unasked rightDrawing takes
 
--- only the draw is given
+-- only the draw that is done is given
 abbrev pub drawsBy : Drawing → Build
 drawsBy draws = builtWith stepRefusals draws rightTaking
+
+-- only that is given which a draw comes to where fewer passes are there than asked: 15 is not
+-- looked for before
+abbrev without : ℕ → List Refusal → List Refusal
+without n [] = []
+without n (r ∷ rs) = cond (eqb (r .number) n) (without n rs) (r ∷ without n rs)
+
+abbrev pub fewOr : Drawing → Drawing
+fewOr few t k amount = cond (ltb (stationAt t k .value) amount) (few t k amount) (rightDrawing t k amount)
+
+abbrev pub drawsFewBy : Drawing → Build
+drawsFewBy few = builtWith (λ t step. without tooFew (stepRefusals t step)) (fewOr few) rightTaking
+
+-- told as refused by 15, with this table after it
+abbrev pub toldFew : Table → Stepped
+toldFew t = record { answer = tooFew; result = 0; report = noReport; table = t }
+
+abbrev pub rightFew : Drawing
+rightFew t k amount = toldFew t
 
 -- every table is taken for unsound
 abbrev pub refusesAll : Build

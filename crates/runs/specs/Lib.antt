@@ -3,6 +3,7 @@ pub mod Demand3
 pub mod Worked
 pub mod Builds
 pub mod Broken
+pub mod WhatIsThere
 pub mod Clauses
 pub mod Tested
 pub mod BrokenAlone

@@ -40,7 +40,8 @@ outputOf t log =
       total = atStations t + onTheWay t;
     }
 
--- the output as document 01 has it
+-- the output as document 01 has it, with step 6, station 0 and the total as request 2026-07 has
+-- them
 abbrev pub workedOutput : Output
 workedOutput =
     record {
@@ -50,7 +51,7 @@ workedOutput =
           ∷ (3 ∷ 0 ∷ 0 ∷ [])
           ∷ (4 ∷ 0 ∷ 1 ∷ [])
           ∷ (5 ∷ 0 ∷ 0 ∷ [])
-          ∷ (6 ∷ 0 ∷ 5 ∷ [])
+          ∷ (6 ∷ 15 ∷ 0 ∷ [])
           ∷ (7 ∷ 0 ∷ 2 ∷ [])
           ∷ (8 ∷ 0 ∷ 5 ∷ [])
           ∷ (9 ∷ 0 ∷ 0 ∷ [])
@@ -58,13 +59,13 @@ workedOutput =
           ∷ (11 ∷ 3 ∷ 0 ∷ [])
           ∷ [];
       stations =
-          -- station 0 value 0 source 1 destination 0
-          (0 ∷ 0 ∷ 1 ∷ 0 ∷ [])
+          -- station 0 value 5 source 1 destination 0
+          (0 ∷ 5 ∷ 1 ∷ 0 ∷ [])
           -- station 1 value 5 source 0 destination 1
           ∷ (1 ∷ 5 ∷ 0 ∷ 1 ∷ [])
           ∷ [];
       on-the-way = 0;
-      total = 5;
+      total = 10;
     }
 
 -- 5 passes from station 0 to station 1, both clocks 0

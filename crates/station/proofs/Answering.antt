@@ -1,5 +1,5 @@
 -- Answers looked for in order, and what follows where the answer is 0. Assumes nothing.
-use Prim.Native.Nat.{ℕ, zero, suc, _+_, _-_, _<_, _≤_, min}
+use Prim.Native.Nat.{ℕ, zero, suc, _+_, _-_, _<_, _≤_}
 use mathlib.Core.Path.{_≡_, refl}
 use mathlib.Core.Bool.{true, not}
 use lib.Dec.{ltb, eqb}
@@ -123,9 +123,7 @@ add-tells s amount = answer-told (addAnswer s amount) s (told (s .value + amount
 
 pub draw-tells : (s : Station) (amount : ℕ) → drawOf s amount .answer ≡ answerOf (drawRefusals s amount)
 unfolding drawOf
-draw-tells s amount =
-    let taken = min (s .value) amount in
-    answer-told (drawAnswer s amount) s (told taken noReport (putStock s (s .value - taken) (s .intake))) refl
+draw-tells s amount = answer-told (drawAnswer s amount) s (told amount noReport (putStock s (s .value - amount) (s .intake))) refl
 
 pub receive-tells : (s : Station) (m : Message) → receiveOf s m .answer ≡ answerOf (receiveRefusals s m)
 unfolding receiveOf

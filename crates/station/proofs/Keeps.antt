@@ -1,6 +1,6 @@
 -- Every step of a sound station leaves a sound station that is still the same one of its table, and
 -- the message that a sound station has for another is sound. Assumes nothing.
-use Prim.Native.Nat.{ℕ, zero, suc, _+_, _-_, _<_, _≤_, min}
+use Prim.Native.Nat.{ℕ, zero, suc, _+_, _-_, _<_, _≤_}
 use mathlib.Core.Path.{_≡_, refl, sym, _∙_}
 use mathlib.Core.Bool.{true, false, not, or-true}
 use native.Mathlib.Omega.{arith}
@@ -57,7 +57,7 @@ unfolding drawOf
 draw-keeps s amount e =
     let w = station-parts s e in
     after (λ (n : Station). stationSound n ≡ true) (drawAnswer s amount) s _ e
-    (λ z. stock-sound s (s .value - min (s .value) amount) (s .intake) e (omega arith) (w .intake))
+    (λ z. stock-sound s (s .value - amount) (s .intake) e (omega arith) (w .intake))
 
 pub receive-keeps : (s : Station) (m : Message) → stationSound s ≡ true → stationSound (receiveOf s m .station) ≡ true
 unfolding receiveOf

@@ -1,6 +1,6 @@
 -- The entry points of one station: what each answers, under which conditions in which order, and
 -- what it does.
-use Prim.Native.Nat.{ℕ, zero, suc, _+_, _-_, min}
+use Prim.Native.Nat.{ℕ, zero, suc, _+_, _-_}
 use mathlib.Core.Bool.{Bool, not, _&&_}
 use mathlib.Core.List.{List, [], _∷_, _++_}
 use lib.Dec.{ltb, eqb}
@@ -10,7 +10,7 @@ use Rattle.rules.specs.declared.report.Report.{Report}
 use Rattle.rules.specs.declared.stock.Stock.{Stock}
 use Rattle.rules.specs.declared.taking.Taken.{Taken}
 use Rattle.rules.specs.Limits.{mostStations, mostIntake, mostValue}
-use Rattle.rules.specs.Answers.{done, notSound, notBelowCount, sameStation, badAmount, intakeLimit, noRecord, valueLimit, forAnother}
+use Rattle.rules.specs.Answers.{done, notSound, notBelowCount, sameStation, badAmount, intakeLimit, noRecord, valueLimit, forAnother, tooFew}
 use Rattle.rules.specs.Message.{noMessage}
 use Rattle.rules.specs.Report.{noReport}
 use Rattle.rules.specs.Refusals.{Refusal, when, answerOf}
@@ -87,17 +87,19 @@ unfoldable pub addOf : Station → ℕ → Outcome
 addOf s amount =
     answered (addAnswer s amount) s (told (s .value + amount) noReport (putStock s (s .value + amount) (s .intake + amount)))
 
--- Draw takes the smaller of the value and the amount asked. Result: what was taken, which may be 0.
+-- Draw takes the amount asked, all or none of it. Result: the amount.
 abbrev pub drawRefusals : Station → ℕ → List Refusal
-drawRefusals s amount = when (not (stationSound s)) notSound ∷ when (not (amountSound amount)) badAmount ∷ []
+drawRefusals s amount =
+    when (not (stationSound s)) notSound
+    ∷ when (not (amountSound amount)) badAmount
+    ∷ when (ltb (s .value) amount) tooFew
+    ∷ []
 
 abbrev pub drawAnswer : Station → ℕ → ℕ
 drawAnswer s amount = answerOf (drawRefusals s amount)
 
 unfoldable pub drawOf : Station → ℕ → Outcome
-drawOf s amount =
-    let taken = min (s .value) amount in
-    answered (drawAnswer s amount) s (told taken noReport (putStock s (s .value - taken) (s .intake)))
+drawOf s amount = answered (drawAnswer s amount) s (told amount noReport (putStock s (s .value - amount) (s .intake)))
 
 -- A message shows from, to, the sender's value and both its clocks, its slot and its token for the
 -- receiver.

@@ -93,7 +93,7 @@ pub fn add(s: Station, amount: u64) -> Outcome
     stock_outcome(s, add_to(s.value, s.intake, amount))
 }
 
-// Takes the smaller of the value and the amount: refused by 1, 4.
+// Takes the amount, all or none of it: refused by 1, 4, 15.
 pub fn draw(s: Station, amount: u64) -> Outcome
     ensures { λ r. ⌜ r ≡ drawOf s amount ⌝ }
 {

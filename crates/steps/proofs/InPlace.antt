@@ -1,7 +1,7 @@
 -- A step done where the table is held: what its plan changes, by what it looked up, leaves the
 -- table that the step leaves, and tells what the step tells.
 -- Assumes nothing.
-use Prim.Native.Nat.{ℕ, zero, suc, _+_, _-_, _<_, _≤_}
+use Prim.Native.Nat.{ℕ, zero, suc, _+_, _<_, _≤_}
 use mathlib.Core.Path.{_≡_, refl}
 use mathlib.Core.Bool.{Bool, true, false, not, _&&_, and-false}
 use mathlib.Core.List.{[], _∷_}
@@ -12,7 +12,7 @@ use Rattle.rules.specs.declared.held.HeldToken.{HeldToken}
 use Rattle.rules.specs.declared.held.HeldToken.the-variants.{NoToken, OneToken}
 use Rattle.rules.specs.declared.message.Message.{Message}
 use Rattle.rules.specs.declared.stock.Stock.{Stock}
-use Rattle.rules.specs.Answers.{badAmount, intakeLimit, valueLimit}
+use Rattle.rules.specs.Answers.{badAmount, intakeLimit, valueLimit, tooFew}
 use Rattle.rules.specs.Limits.{mostStations, mostIntake, mostValue}
 use Rattle.rules.specs.Refusals.{when, answerOf}
 use Rattle.rules.specs.Report.{noReport}
@@ -128,7 +128,8 @@ module _ (t : Table) (sound : tableSound t ≡ true) where
       (λ e w.
       let s = stationAt t k in
       rw (sound, e, le-leb _ _ (w .value), le-leb _ _ (w .intake))
-      (stock-by t k j (answerOf (when (not (amountSound amount)) badAmount ∷ [])) (s .value) (s .intake) (drawDone (s .value) (s .intake) amount) refl))
+      (stock-by t k j (answerOf (when (not (amountSound amount)) badAmount ∷ when (ltb (s .value) amount) tooFew ∷ []))
+      (s .value) (s .intake) (drawDone (s .value) (s .intake) amount) refl))
 
   -- what a send that is not refused has passed
   send-message : (from to p : ℕ) → sendAnswer from to (t .count) p ≡ 0 → let l = lookedAt from to in

@@ -1,5 +1,5 @@
 -- Every step of a sound table leaves a sound table. Assumes nothing.
-use Prim.Native.Nat.{ℕ, zero, suc, _+_, _-_, _<_, min}
+use Prim.Native.Nat.{ℕ, zero, suc, _+_, _-_, _<_, _≤_}
 use mathlib.Core.Path.{_≡_, refl, sym, _∙_}
 use mathlib.Core.Bool.{true, false, not, _&&_}
 use mathlib.Core.List.{[], _∷_}
@@ -12,7 +12,7 @@ use Rattle.rules.specs.Refusals.{when, answerOf}
 use Rattle.rules.specs.Stock.{amountSound}
 use Rattle.rules.proofs.Below.{both-hold}
 use Rattle.rules.proofs.Refusing.{passed}
-use Rattle.station.specs.Steps.{showAnswer, messageFor, receiveAnswer, receiveOf}
+use Rattle.station.specs.Steps.{putStock, showAnswer, messageFor, receiveAnswer, receiveOf}
 use Rattle.station.proofs.Keeps.{stock-sound, message-sound, receive-keeps}
 use Rattle.station.proofs.Parts.{station-parts}
 use Rattle.pool.specs.declared.places.Waiting.{Waiting}
@@ -23,7 +23,7 @@ use Rattle.steps.specs.declared.asked.Step.{Step}
 use Rattle.steps.specs.declared.asked.Step.the-variants.{Add, Draw, Send, Deliver, Lose}
 use Rattle.table.specs.declared.table.Table.{Table}
 use Rattle.pool.specs.Pool.{mostPlaces, isEmpty, lowestEmpty}
-use Rattle.table.specs.Table.{stationAt, waitingAt}
+use Rattle.table.specs.Table.{stationAt, waitingAt, putStation}
 use Rattle.table.specs.Sound.{placeSound, tableSound}
 use Rattle.table.specs.Stepped.{answeredStep}
 use Rattle.steps.specs.Steps.{delivered, overfills, stepRefusals, stepDone, stepOf}
@@ -79,6 +79,14 @@ module _ {t : Table} (w : SoundTable t) where
       let seat = seat-of w (m .to) (there .to) in
       put-station (m .to) w (moved seat (rw (received-there m there e) at (receive-keeps s m (seat .sound))) (refl, refl))
 
+  -- a station that has less than it had
+  pub less-keeps : (k value : ℕ) → k < t .count → value ≤ stationAt t k .value → let s = stationAt t k in SoundTable (putStation t k (putStock s value (s .intake)))
+  less-keeps k value h less =
+      let s = stationAt t k in
+      let seat = seat-of w k h in
+      let parts = station-parts s (seat .sound) in
+      put-station k w (moved seat (stock-sound s value (s .intake) (seat .sound) (omega (arith, parts .value, less)) (parts .intake)) (refl, refl))
+
   -- each step that is not refused, by its own reason
   done-keeps : (step : Step) → answerOf (stepRefusals t step) ≡ 0 → SoundTable (stepDone t step .table)
   done-keeps (Add k amount) e =
@@ -92,10 +100,7 @@ module _ {t : Table} (w : SoundTable t) where
   done-keeps (Draw k amount) e =
       let one = passed (not (tableSound t)) 0 e in
       let two = passed (not (ltb k (t .count))) 1 (one .1) in
-      let s = stationAt t k in
-      let seat = seat-of w k (ltb-true _ _ (not-false _ (two .0))) in
-      let parts = station-parts s (seat .sound) in
-      put-station k w (moved seat (stock-sound s (s .value - min (s .value) amount) (s .intake) (seat .sound) (omega (arith, parts .value)) (parts .intake)) (refl, refl))
+      less-keeps k (stationAt t k .value - amount) (ltb-true _ _ (not-false _ (two .0))) (omega arith)
   done-keeps (Send from to) e =
       let z = sends t from to e in
       let seat = seat-of w from (z .from-below) in

@@ -1,6 +1,6 @@
 -- A step of a sound table tells and does what the step of its one station does, and a message sent
 -- is the one that its sender shows. Assumes nothing.
-use Prim.Native.Nat.{ℕ, zero, suc, _<_, _+_, _-_, min}
+use Prim.Native.Nat.{ℕ, zero, suc, _<_, _+_, _-_}
 use mathlib.Core.Path.{_≡_, refl, sym, _∙_, ap}
 use mathlib.Core.Bool.{true, not}
 use mathlib.Core.List.{[], _∷_}
@@ -11,7 +11,7 @@ use lib.Seq.{getD-set-same, getD-set-other}
 use borrow.Author.Tests.{eq-eqb, lt-ltb, ne-eqb}
 use Rattle.rules.specs.declared.message.Message.{Message}
 use Rattle.rules.specs.declared.report.Report.{Report}
-use Rattle.rules.specs.Answers.{badAmount, intakeLimit, valueLimit}
+use Rattle.rules.specs.Answers.{badAmount, intakeLimit, valueLimit, tooFew}
 use Rattle.rules.specs.Limits.{mostStations, mostIntake, mostValue}
 use Rattle.rules.specs.Refusals.{when, answerOf}
 use Rattle.rules.specs.Report.{noReport}
@@ -84,9 +84,9 @@ module _ (t : Table) (sound : tableSound t ≡ true) (full : length (t .stations
   unfolding stepOf drawOf
   draw-same k amount h =
       let s = stationAt t k in
-      let taken = min (s .value) amount in
       rw (sound, lt-ltb k (t .count) h, seat-of (table-parts t sound) k h .sound)
-      (same-by t k (answerOf (when (not (amountSound amount)) badAmount ∷ [])) taken noReport (putStock s (s .value - taken) (s .intake)) (there k h))
+      (same-by t k (answerOf (when (not (amountSound amount)) badAmount ∷ when (ltb (s .value) amount) tooFew ∷ []))
+      amount noReport (putStock s (s .value - amount) (s .intake)) (there k h))
 
   -- delivering the message of a place is receiving it at the station that it is for
   pub deliver-same : (p : ℕ) (m : Message) → p < mostPlaces → waitingAt t p ≡ One m

@@ -1,11 +1,11 @@
 -- The steps of a table: the refusals of each in their order, and what it does where none of them
 -- holds.
-use Prim.Native.Nat.{ℕ, _+_, _-_, min}
+use Prim.Native.Nat.{ℕ, _+_, _-_}
 use mathlib.Core.Bool.{Bool, false, not, _&&_}
 use mathlib.Core.List.{List, [], _∷_}
 use lib.Dec.{ltb, eqb}
 use Rattle.rules.specs.declared.message.Message.{Message}
-use Rattle.rules.specs.Answers.{notBelowCount, sameStation, badAmount, intakeLimit, poolFull, noSuchPlace, emptyPlace, valueLimit}
+use Rattle.rules.specs.Answers.{notBelowCount, sameStation, badAmount, intakeLimit, poolFull, noSuchPlace, emptyPlace, valueLimit, tooFew}
 use Rattle.rules.specs.Limits.{mostIntake, mostValue}
 use Rattle.rules.specs.Refusals.{Refusal, when, answerOf}
 use Rattle.rules.specs.Report.{noReport}
@@ -30,9 +30,9 @@ use Rattle.table.specs.Stepped.{did, answeredStep}
 abbrev pub added : Table → ℕ → ℕ → Station → Stepped
 added t k amount s = did (s .value + amount) noReport (putStation t k (putStock s (s .value + amount) (s .intake + amount)))
 
--- Draw takes the smaller of the value and the amount asked. Result: what was taken.
+-- Draw takes the amount asked, all or none of it. Result: the amount.
 abbrev pub drawn : Table → ℕ → ℕ → Station → Stepped
-drawn t k taken s = did taken noReport (putStation t k (putStock s (s .value - taken) (s .intake)))
+drawn t k amount s = did amount noReport (putStation t k (putStock s (s .value - amount) (s .intake)))
 
 -- Send writes the sender's message into the lowest-numbered empty place. The sender does not
 -- change. Result: the place.
@@ -66,7 +66,12 @@ stepRefusals t (Add k amount) =
     ∷ when (ltb mostIntake (stationAt t k .intake + amount)) intakeLimit
     ∷ when (ltb mostValue (stationAt t k .value + amount)) valueLimit
     ∷ []
-stepRefusals t (Draw k amount) = unsound t ∷ when (not (ltb k (t .count))) notBelowCount ∷ when (not (amountSound amount)) badAmount ∷ []
+stepRefusals t (Draw k amount) =
+    unsound t
+    ∷ when (not (ltb k (t .count))) notBelowCount
+    ∷ when (not (amountSound amount)) badAmount
+    ∷ when (ltb (stationAt t k .value) amount) tooFew
+    ∷ []
 stepRefusals t (Send from to) =
     unsound t
     ∷ when (not (ltb from (t .count) && ltb to (t .count))) notBelowCount
@@ -83,7 +88,7 @@ stepRefusals t (Lose p) = unsound t ∷ when (not (ltb p mostPlaces)) noSuchPlac
 
 abbrev pub stepDone : Table → Step → Stepped
 stepDone t (Add k amount) = added t k amount (stationAt t k)
-stepDone t (Draw k amount) = drawn t k (min (stationAt t k .value) amount) (stationAt t k)
+stepDone t (Draw k amount) = drawn t k amount (stationAt t k)
 stepDone t (Send from to) = sent t (lowestEmpty (t .pool)) (messageFor (stationAt t from) to)
 stepDone t (Deliver p) = delivered t (waitingAt t p)
 stepDone t (Lose p) = lost t p

@@ -27,8 +27,8 @@ fn report_of(rules: u64, opened: u64, made: u64) -> Report
     }
 }
 
-// One step of a table, as a run of one: refused by add 1, 2, 4, 5, 10; draw 1, 2, 4; send 1, 2, 3,
-// 6; deliver 1, 7, 8, 10; lose 1, 7, 8.
+// One step of a table, as a run of one: refused by add 1, 2, 4, 5, 10; draw 1, 2, 4, 15; send 1, 2,
+// 3, 6; deliver 1, 7, 8, 10; lose 1, 7, 8.
 pub fn step(t: Table, step: Step) -> Stepped
     ensures { λ r. ⌜ r ≡ stepOf t step ⌝ }
 {

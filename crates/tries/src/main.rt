@@ -136,6 +136,16 @@ fn draws(rich: Station) {
     try_draw(b"draw 1000000000", rich, 1000000000);
 }
 
+// A station with 5.
+fn all_or_none(five: Station) {
+    try_draw(b"draw 4 of 5", five, 4);
+    try_draw(b"draw 5 of 5", five, 5);
+    try_draw(b"draw 6 of 5", five, 6);
+    try_draw(b"draw 0 of 5", five, 0);
+    try_draw(b"draw 1000000000 of 5", five, 1000000000);
+    try_draw(b"draw 1000000001 of 5", five, 1000000001);
+}
+
 fn no_station() {
     let none = station::fresh(0, 0);
     let unsound = none.station;
@@ -163,6 +173,8 @@ fn stations() {
     draws(rich);
     try_draw(b"draw from nothing", s, 1);
     try_draw(b"draw largest", rich, LARGEST);
+    let few = station::add(s, 5);
+    all_or_none(few.station);
     no_station();
     messages(s);
 }
@@ -245,6 +257,8 @@ fn numbers_too_large(t: Table) {
     go(b"add at 4294967296", t, Step::Add(4294967296, 1));
     go(b"add 9999999999", t, Step::Add(0, 9999999999));
     go(b"draw at largest", t, Step::Draw(LARGEST, 1));
+    go(b"draw at 16", t, Step::Draw(16, 1));
+    go(b"draw 1 of 0", t, Step::Draw(15, 1));
     go(b"send to largest", t, Step::Send(0, LARGEST));
 }
 

@@ -9,6 +9,7 @@ pub struct Counts {
     pub unreadable: u64,
     pub refused: u64,
     pub pool_full: u64,
+    pub too_few: u64,
     pub deliveries: u64,
     pub fills: u64,
     pub slots_dropped: u64,
@@ -26,6 +27,7 @@ impl Counts {
         let rules = told.report.rules;
         self.refused += u64::from(told.answer != Answer::Done);
         self.pool_full += u64::from(told.answer == Answer::PoolFull);
+        self.too_few += u64::from(told.answer == Answer::TooFew);
         let Some(message) = delivered else { return };
         self.deliveries += 1;
         self.fills += u64::from(rules[0]);
@@ -44,6 +46,7 @@ impl Counts {
         self.unreadable += other.unreadable;
         self.refused += other.refused;
         self.pool_full += other.pool_full;
+        self.too_few += other.too_few;
         self.deliveries += other.deliveries;
         self.fills += other.fills;
         self.slots_dropped += other.slots_dropped;
@@ -59,7 +62,7 @@ impl Counts {
     pub fn told(&self) -> String {
         format!(
             "deliveries {}, fills {}, slots dropped {}, opened {}, reopened {}, tokens dropped {}, \
-             made {}, of 0 {}, stale {}, refused {}, pool full {}, unreadable {}",
+             made {}, of 0 {}, stale {}, refused {}, pool full {}, too few to draw {}, unreadable {}",
             self.deliveries,
             self.fills,
             self.slots_dropped,
@@ -71,6 +74,7 @@ impl Counts {
             self.stale_tokens,
             self.refused,
             self.pool_full,
+            self.too_few,
             self.unreadable
         )
     }

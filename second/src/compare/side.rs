@@ -74,7 +74,7 @@ impl Side for Own {
     }
 
     fn draw(&mut self, station: &mut FlatStation, amount: u64) -> ToldRow {
-        at(station, |station| station.draw(amount))
+        at(station, |station| station.draw(amount, self.fault))
     }
 
     fn write(&mut self, station: &FlatStation, to: u64, out: &mut [u8]) -> ToldRow {

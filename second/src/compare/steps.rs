@@ -86,16 +86,23 @@ impl Writer {
         self.line(format!("add {station} {amount}"));
     }
 
-    /// All there is, more, or some.
+    /// All there is, about that, some of it, or any amount.
     fn draw(&mut self) {
         let (station, _) = self.pair();
-        let value = self.table.stations[station as usize].value;
-        let amount = match self.random.weighed(&[20, 10, 70]) {
-            0 => value.clamp(1, MOST_AMOUNT),
-            1 => self.random.around(value),
+        let there = self.drawable(station);
+        let amount = match self.random.weighed(&[20, 20, 40, 20]) {
+            0 => there,
+            1 => self.random.around(there),
+            2 => self.random.between(1, there),
             _ => self.random.between(1, self.kind.amounts),
         };
         self.line(format!("draw {station} {amount}"));
+    }
+
+    /// What a station has, as an amount that may be asked for: 1 if it has
+    /// nothing, and then the draw is refused.
+    fn drawable(&self, station: u64) -> u64 {
+        self.table.stations[station as usize].value.clamp(1, MOST_AMOUNT)
     }
 
     /// Three messages to and fro, each delivered: slot, token, fill. Between
@@ -106,7 +113,8 @@ impl Writer {
         for (turn, (from, to)) in [(rich, poor), (poor, rich), (rich, poor)].into_iter().enumerate()
         {
             if empties && turn == 1 {
-                self.line(format!("draw {rich} {MOST_AMOUNT}"));
+                let all = self.drawable(rich);
+                self.line(format!("draw {rich} {all}"));
             }
             let place = match self.line(format!("send {from} {to}")) {
                 Some(Told { answer: Answer::Done, result, .. }) => result,

@@ -9,13 +9,17 @@ use Rattle.rules.proofs.stock.add_to.Tie as tie
 add-to-answer-requires : tie.Need-add-to-answer-requires
 add-to-answer-requires c κs = search needs
 
+refuse-requires : tie.Need-refuse-requires
+refuse-requires c κs = search needs
+
 returns : tie.Need-returns
 unfolding addedTo
 returns c =
-    let a = c .before .before .args in
-    let n = c .before .add-to-answer in
-    rw (n .ensures) (stock-refused (addToAnswer (a .value) (a .intake) (a .amount)) (a .value) (a .intake) (addDone (a .value) (a .intake) (a .amount))
-    (λ e. c .if1 .taken (n .ensures ∙ e)))
+    let a = c .before .before .before .args in
+    let n = c .before .before .add-to-answer in
+    c .refuse .ensures
+    ∙ rw (n .ensures) (stock-refused (addToAnswer (a .value) (a .intake) (a .amount)) (a .value) (a .intake) (addDone (a .value) (a .intake) (a .amount))
+    (λ e. c .before .if1 .taken (n .ensures ∙ e)))
 
 room : (c : tie.Else1) → let a = c .before .before .args in Added (a .value) (a .intake) (a .amount)
 room c = let a = c .before .before .args in added (a .value) (a .intake) (a .amount) (sym (c .before .add-to-answer .ensures) ∙ c .if1 .left)
@@ -33,4 +37,4 @@ returns-2 c =
     rw (c .if1 .left) (stock-done (a .value) (a .intake) (addDone (a .value) (a .intake) (a .amount)) (sym (c .before .add-to-answer .ensures) ∙ c .if1 .left))
 
 pub add-to-spec : {M : Type 1} → statement M
-add-to-spec = tie.close (tie.spec add-to-answer-requires returns add-more add-t7 returns-2)
+add-to-spec = tie.close (tie.spec add-to-answer-requires refuse-requires returns add-more add-t7 returns-2)
