@@ -1,37 +1,31 @@
--- Every draw is all or none. Assumes nothing.
-use Prim.Native.Nat.{ℕ, zero, suc, _-_, _<_, _≤_}
-use mathlib.Core.Path.{_≡_, refl, ap}
-use mathlib.Core.Bool.{not}
+-- Every draw is all or none: that of a stock, and so that of a station and of a table. Assumes
+-- nothing.
+use Prim.Native.Nat.{ℕ, zero, suc, _≤_}
+use mathlib.Core.Path.{_≡_, refl}
+use mathlib.Core.Bool.{Bool, true, false, not}
 use mathlib.Core.Logic.{inl, inr}
 use native.Mathlib.Omega.{arith}
 use lib.Dec.{ltb}
 use lib.ListN.{length}
-use lib.Seq.{getD-set-same}
-use borrow.Author.Tests.{ltb-true, ltb-false, not-false}
+use borrow.Author.Tests.{ltb-true, ltb-false}
 use Rattle.rules.specs.Limits.{mostStations}
-use Rattle.rules.specs.Refusals.{answerOf}
 use Rattle.rules.specs.Stock.{stockSound, amountSound, stocked, drawFromAnswer, drawDone, drawnFrom}
-use Rattle.rules.specs.Report.{noReport}
 use Rattle.rules.proofs.Refusing.{passed}
 use Rattle.station.specs.declared.station.Station.{Station}
-use Rattle.station.specs.Outcome.{answered}
 use Rattle.station.specs.Sound.{stationSound}
-use Rattle.station.specs.Steps.{told, putStock, drawAnswer, drawOf}
+use Rattle.station.specs.Steps.{drawOf}
+use Rattle.station.proofs.ByRules.{draw-by-stock, unsound-draw}
 use Rattle.table.specs.declared.table.Table.{Table}
 use Rattle.table.specs.Sound.{tableSound}
-use Rattle.table.specs.Stepped.{answeredStep}
 use Rattle.table.specs.Table.{stationAt}
-use Rattle.table.proofs.Tables.{table-parts}
 use Rattle.steps.specs.declared.asked.Step.the-variants.{Draw}
-use Rattle.steps.specs.Steps.{stepRefusals, stepDone, stepOf}
+use Rattle.steps.specs.Steps.{stepOf}
+use Rattle.steps.proofs.Same.{draw-same}
 use Rattle.demands.specs.AllOrNone.{AllOrNone, Draws}
 
--- a draw that is done took the amount, which was there; one that is refused, nothing
-took : {amount result before after : ℕ} → amount ≤ before → result ≡ amount → after ≡ before - amount → AllOrNone amount 0 result before after
-took there r a = inl (refl, r, omega (arith, there, a))
-
-kept : {amount : ℕ} (n : ℕ) {result before after : ℕ} → result ≡ 0 → after ≡ before → AllOrNone amount (suc n) result before after
-kept n r a = inr (λ f. absurd (omega arith), r, a)
+-- a refusal takes and tells nothing
+kept : {amount : ℕ} (n before : ℕ) → AllOrNone amount (suc n) 0 before before
+kept n before = inr (λ f. absurd (omega arith), refl, refl)
 
 stock-draws : (value intake amount : ℕ) → let r = drawnFrom value intake amount in AllOrNone amount (r .answer) (r .result) value (r .value)
 unfolding drawnFrom
@@ -42,40 +36,29 @@ stock-draws value intake amount = by (drawFromAnswer value intake amount) refl
     by zero e =
         let one = passed (not (stockSound value intake)) 0 e in
         let two = passed (not (amountSound amount)) 3 (one .1) in
-        took (ltb-false _ _ (passed (ltb value amount) 14 (two .1) .0)) refl refl
-    by (suc n) e = kept n refl refl
+        let there : amount ≤ value = ltb-false _ _ (passed (ltb value amount) 14 (two .1) .0) in
+        inl (refl, refl, omega (arith, there))
+    by (suc n) e = kept n value
 
 station-draws : (s : Station) (amount : ℕ) → let r = drawOf s amount in AllOrNone amount (r .answer) (r .result) (s .value) (r .station .value)
-unfolding drawOf
-station-draws s amount = by (drawAnswer s amount) refl
+station-draws s amount = by (stationSound s) refl
   where
-    by : (n : ℕ) → drawAnswer s amount ≡ n
-        → let r = answered n s (told amount noReport (putStock s (s .value - amount) (s .intake))) in
-        AllOrNone amount (r .answer) (r .result) (s .value) (r .station .value)
-    by zero e =
-        let one = passed (not (stationSound s)) 0 e in
-        let two = passed (not (amountSound amount)) 3 (one .1) in
-        took (ltb-false _ _ (passed (ltb (s .value) amount) 14 (two .1) .0)) refl refl
-    by (suc n) e = kept n refl refl
+    by : (b : Bool) → stationSound s ≡ b → let r = drawOf s amount in AllOrNone amount (r .answer) (r .result) (s .value) (r .station .value)
+    by true e = rw (← draw-by-stock s amount e) (stock-draws (s .value) (s .intake) amount)
+    by false e = rw (← unsound-draw s amount e) (kept 0 (s .value))
 
 step-draws : (t : Table) (k amount : ℕ) → length (t .stations) ≡ mostStations
     → let r = stepOf t (Draw k amount) in AllOrNone amount (r .answer) (r .result) (stationAt t k .value) (stationAt (r .table) k .value)
 unfolding stepOf
-step-draws t k amount full = by (answerOf (stepRefusals t (Draw k amount))) refl
+step-draws t k amount full = by (tableSound t) (ltb k (t .count)) refl refl
   where
-    by : (n : ℕ) → answerOf (stepRefusals t (Draw k amount)) ≡ n
-        → let r = answeredStep n t (stepDone t (Draw k amount)) in
-        AllOrNone amount (r .answer) (r .result) (stationAt t k .value) (stationAt (r .table) k .value)
-    by zero e =
-        let s = stationAt t k in
-        let one = passed (not (tableSound t)) 0 e in
-        let two = passed (not (ltb k (t .count))) 1 (one .1) in
-        let three = passed (not (amountSound amount)) 3 (two .1) in
-        let below = ltb-true k (t .count) (not-false _ (two .0)) in
-        let here : k < length (t .stations) = omega (arith, below, table-parts t (not-false _ (one .0)) .most) in
-        took (ltb-false _ _ (passed (ltb (s .value) amount) 14 (three .1) .0)) refl
-        (ap (λ (x : Station). x .value) (getD-set-same (t .stations) k (putStock s (s .value - amount) (s .intake)) _ here))
-    by (suc n) e = kept n refl refl
+    by : (b below : Bool) → tableSound t ≡ b → ltb k (t .count) ≡ below
+        → let r = stepOf t (Draw k amount) in AllOrNone amount (r .answer) (r .result) (stationAt t k .value) (stationAt (r .table) k .value)
+    by false below e h = rw e (kept 0 (stationAt t k .value))
+    by true false e h = rw (e, h) (kept 1 (stationAt t k .value))
+    by true true e h =
+        let same = draw-same t e full k amount (ltb-true k (t .count) h) in
+        rw (same .answer, same .result, same .station) (station-draws (stationAt t k) amount)
 
 pub draws : Draws
 draws = record { stock = stock-draws; station = station-draws; step = step-draws }
