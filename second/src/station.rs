@@ -97,11 +97,10 @@ impl Station {
         if !is_amount(amount) {
             return Err(Answer::BadAmount);
         }
-        let taken = match self.value.checked_sub(amount) {
-            Some(_) => amount,
-            None if fault == Fault::DrawsWhatIsThere => self.value,
-            None => return Err(Answer::TooFew),
-        };
+        if self.value < amount && fault != Fault::DrawsWhatIsThere {
+            return Err(Answer::TooFew);
+        }
+        let taken = self.value.min(amount);
         self.value -= taken;
         Ok(taken)
     }

@@ -21,7 +21,7 @@ use Rattle.table.specs.Table.{stationAt}
 use Rattle.steps.specs.declared.asked.Step.the-variants.{Draw}
 use Rattle.steps.specs.Steps.{stepOf}
 use Rattle.steps.proofs.Same.{draw-same}
-use Rattle.demands.specs.AllOrNone.{AllOrNone, Draws}
+use Rattle.demands.specs.AllOrNone.{AllOrNone, EveryDraw}
 
 -- a refusal takes and tells nothing
 kept : {amount : ℕ} (n before : ℕ) → AllOrNone amount (suc n) 0 before before
@@ -60,5 +60,5 @@ step-draws t k amount full = by (tableSound t) (ltb k (t .count)) refl refl
         let same = draw-same t e full k amount (ltb-true k (t .count) h) in
         rw (same .answer, same .result, same .station) (station-draws (stationAt t k) amount)
 
-pub draws : Draws
-draws = record { stock = stock-draws; station = station-draws; step = step-draws }
+pub every-draw : EveryDraw
+every-draw = record { stock = stock-draws; station = station-draws; step = step-draws }

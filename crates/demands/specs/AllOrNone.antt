@@ -19,7 +19,7 @@ abbrev pub AllOrNone : ℕ → ℕ → ℕ → ℕ → ℕ → Type 0
 AllOrNone amount answer result before after =
     ((answer ≡ done) × (result ≡ amount) × (after + amount ≡ before)) ⊎ ((answer ≢ done) × (result ≡ 0) × (after ≡ before))
 
-pub record Draws : Type 0 where
+pub record EveryDraw : Type 0 where
   pub stock : (value intake amount : ℕ) → let r = drawnFrom value intake amount in AllOrNone amount (r .answer) (r .result) value (r .value)
   pub station : (s : Station) (amount : ℕ) → let r = drawOf s amount in AllOrNone amount (r .answer) (r .result) (s .value) (r .station .value)
   -- a table has all its stations: its type says so in the code, a list does not

@@ -1,5 +1,5 @@
--- A draw of what is there where more is asked keeps demand 3: no sum tells it from the right one.
--- It is not what a step does, and so demand 2 shuts it out. Assumes nothing.
+-- A draw of what is there where more is asked keeps demand 3. It is not what a step does, and so
+-- demand 2 shuts it out. Assumes nothing.
 use Prim.Native.Nat.{ℕ, zero, suc, _<_}
 use mathlib.Core.Path.{_≡_, refl, ap}
 use mathlib.Core.Bool.{Bool, true, false, cond, not}
@@ -35,7 +35,7 @@ use Rattle.runs.proofs.Refused.{StepGoes, plain-first, plain, by-answer
 use Rattle.runs.proofs.RightParts.{delivers-right}
 use Rattle.runs.proofs.StockSteps.{add-goes, taken-goes}
 
--- a draw, if it is one of those that are not refused
+-- what a draw of this build is refused by: 15 is not among it
 abbrev refusal : Table → ℕ → ℕ → ℕ
 refusal t k amount = cond (not (tableSound t)) 1 (cond (not (ltb k (t .count))) 2 (cond (not (amountSound amount)) 4 0))
 
