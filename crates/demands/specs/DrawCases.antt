@@ -1,5 +1,6 @@
 -- Cases for a draw: all or none, and the order of its refusals. Each is computed three times: at
--- the stock, at the station that has it, and as a step of a table of two with that station.
+-- the stock, at the station that has it, and as a step of a table of two with that station. The
+-- last two, of a station's number, are cases of the table alone.
 use Prim.Native.Nat.{ℕ}
 use mathlib.Core.List.{List, [], _∷_}
 use Rattle.rules.specs.Stock.{drawnFrom}
