@@ -46,7 +46,7 @@ right-taking t (Lose p) = refl
 pub right-draw : (t : Table) (step : Step) → drawsBy rightDrawing t step ≡ stepOf t step
 right-draw t step = right-taking t step
 
--- what is refused is refused first or where it is found
+-- 15 looked for last, or by the draw itself: the same is told
 few-told : (unsound past bad few : Bool) (t : Table) (d : Stepped)
     → answeredStep (cond unsound 1 (cond past 2 (cond bad 4 0))) t (cond few (toldFew t) d)
     ≡ answeredStep (cond unsound 1 (cond past 2 (cond bad 4 (cond few 15 0)))) t d

@@ -49,9 +49,6 @@ added s amount e =
     let four = passed (ltb mostValue (s .value + amount)) 9 (three .1) in
     record { sound = not-false _ (one .0); intake = ltb-false _ _ (three .0); value = ltb-false _ _ (four .0) }
 
-pub drawn : (s : Station) (amount : ℕ) → drawAnswer s amount ≡ 0 → stationSound s ≡ true
-drawn s amount e = not-false _ (passed (not (stationSound s)) 0 e .0)
-
 -- a message that is shown is for another station of the table
 pub record Peer (s : Station) (k : ℕ) : Type 0 where
   pub sound : stationSound s ≡ true
