@@ -23,8 +23,8 @@ use Rattle.rules.specs.Message.{noMessage}
 use Rattle.station.specs.Steps.{freshAnswer, addAnswer, drawAnswer, showAnswer, showing, receiveAnswer, messageFor, freshOf, addOf, drawOf, showOf, receiveOf}
 use Rattle.record.specs.declared.reading.Reading.{Reading}
 use Rattle.record.specs.declared.writing.Written.{Written}
-use Rattle.record.specs.Reading.{isRecord, noReading, readAt, readOf}
-use Rattle.record.specs.Layout.{bytesOf}
+use Rattle.record.specs.Reading.{isRecord, noReading, readOf}
+use Rattle.record.specs.Dateless.{recordOf}
 use Rattle.record.specs.Writing.{Writes, writeAnswer}
 use Rattle.record.specs.AtStation.{writeForAnswer, receiveBytesOf}
 use Rattle.quynhabet.specs.declared.told.Told.{Told}
@@ -158,7 +158,7 @@ demand1 =
       station·draw = λ s amount. at-station (drawAnswer s amount) s _ refl;
       station·message-for = λ s to. no-message (showAnswer s to) (messageFor s to);
       station·receive = λ s m. at-station (receiveAnswer s m) s _ refl;
-      record·read = λ bytes. no-record (isRecord bytes 0) _ refl;
+      record·read = λ bytes. no-record (isRecord bytes) _ refl;
       record·write = λ m buffer. writes _ _ buffer;
       record·write-message = λ s to buffer. writes _ _ buffer;
       record·receive-bytes = λ s bytes. at-station (receiveAnswer s (readOf bytes .message)) s _ refl;
@@ -178,17 +178,17 @@ demand1 =
       quynhabet·qb-station-write =
           λ station to out.
           let s = stationOf station in
-          gives-refused _ out (into-bytes (stationFits station) notSound (writeForAnswer s to (length out)) (bytesOf (messageFor s to)) out);
+          gives-refused _ out (into-bytes (stationFits station) notSound (writeForAnswer s to (length out)) (recordOf (messageFor s to)) out);
       quynhabet·qb-station-receive =
           λ station bytes.
           let s = stationOf station in
           gives-refused _ station
           (on-numbers (stationFits station) s (receiveBytesOf s bytes) station (at-station (receiveAnswer s (readOf bytes .message)) s _ refl));
-      quynhabet·qb-record-read = λ bytes message. gives-refused _ message (from-bytes (readOf bytes) message (no-record (isRecord bytes 0) _ refl));
+      quynhabet·qb-record-read = λ bytes message. gives-refused _ message (from-bytes (readOf bytes) message (no-record (isRecord bytes) _ refl));
       quynhabet·qb-record-write =
           λ message out.
           let m = messageOf message in
-          gives-refused _ out (into-bytes (messageFits message) noRecord (writeAnswer m (length out)) (bytesOf m) out);
+          gives-refused _ out (into-bytes (messageFits message) noRecord (writeAnswer m (length out)) (recordOf m) out);
       table·fresh-table = makes;
       steps·step = steps;
       steps·run = λ t codes told r told′ p. rw (p .ran, p .lent) (no-run (tableSound t) t _ told _ refl);

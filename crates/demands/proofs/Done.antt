@@ -8,8 +8,10 @@ use Rattle.rules.specs.Stock.{addedTo, drawnFrom}
 use Rattle.rules.specs.Taking.{takeOf, takenOf}
 use Rattle.station.specs.Steps.{freshOf as freshStation, addOf, drawOf, showOf, receiveOf}
 use Rattle.record.specs.Numbers.{big, numberAt}
-use Rattle.record.specs.Layout.{bytesOf}
-use Rattle.record.specs.Reading.{fieldAt, isRecord, readAt}
+use Rattle.record.specs.Fields.{bytesOf}
+use Rattle.record.specs.Walk.{look, taken, step, ended, walkFrom}
+use Rattle.record.specs.Dateless.{recordOf}
+use Rattle.record.specs.Reading.{walked, isRecord, readOf}
 use Rattle.record.specs.AtStation.{receiveBytesOf}
 use Rattle.pool.specs.Pool.{firstFrom}
 use Rattle.table.specs.Sound.{tableSound}
@@ -23,5 +25,5 @@ use Rattle.script.specs.Filling.{turnOf}
 use Rattle.demands.specs.Done.{doneAnswers}
 
 pub all-done : doneAnswers ≡ replicate (length doneAnswers) 0
-unfolding takenOf addedTo drawnFrom askedIn leftBy ranOf numeralOf stationsOf startedOf turnOf freshStation addOf drawOf showOf receiveOf takeOf stationSound messageSound allBelow bytesOf big numberAt fieldAt isRecord readAt receiveBytesOf firstFrom tableSound seatsTo freshOf stepOf sumBelow
+unfolding takenOf addedTo drawnFrom askedIn leftBy ranOf numeralOf stationsOf startedOf turnOf freshStation addOf drawOf showOf receiveOf takeOf stationSound messageSound allBelow recordOf bytesOf big numberAt look taken step ended walkFrom walked isRecord readOf receiveBytesOf firstFrom tableSound seatsTo freshOf stepOf sumBelow
 all-done = refl

@@ -9,8 +9,10 @@ use Rattle.rules.specs.Stock.{drawnFrom}
 use Rattle.rules.specs.Taking.{takeOf}
 use Rattle.station.specs.Steps.{addOf, drawOf, showOf, receiveOf}
 use Rattle.record.specs.Numbers.{big, numberAt}
-use Rattle.record.specs.Layout.{bytesOf}
-use Rattle.record.specs.Reading.{fieldAt, isRecord, readAt}
+use Rattle.record.specs.Fields.{bytesOf}
+use Rattle.record.specs.Walk.{look, taken, step, ended, walkFrom}
+use Rattle.record.specs.Dateless.{recordOf}
+use Rattle.record.specs.Reading.{walked, isRecord, readOf}
 use Rattle.record.specs.AtStation.{receiveBytesOf}
 use Rattle.pool.specs.Pool.{firstFrom}
 use Rattle.table.specs.Sound.{tableSound}
@@ -24,7 +26,7 @@ use Rattle.demands.specs.SpentTokens.{spentTokens}
 use Rattle.demands.specs.DrawCases.{drawCases}
 
 pub named-cases-hold : map (λ (c : Case). c .gives) namedCases ≡ map (λ (c : Case). c .wanted) namedCases
-unfolding showOf receiveOf takeOf stationSound messageSound allBelow bytesOf big numberAt fieldAt isRecord readAt receiveBytesOf firstFrom tableSound seatsTo freshOf stepOf logOf
+unfolding showOf receiveOf takeOf stationSound messageSound allBelow recordOf bytesOf big numberAt look taken step ended walkFrom walked isRecord readOf receiveBytesOf firstFrom tableSound seatsTo freshOf stepOf logOf
 named-cases-hold = refl
 
 pub bound-cases-hold : map (λ (c : Case). c .gives) boundCases ≡ map (λ (c : Case). c .wanted) boundCases

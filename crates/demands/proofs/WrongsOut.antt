@@ -13,8 +13,10 @@ use Rattle.steps.specs.Running.{askedIn, toldBy, leftBy, ranOf, toldOf}
 use Rattle.steps.specs.Steps.{stepOf}
 use Rattle.measure.specs.Steps.{lastResult}
 use Rattle.record.specs.Numbers.{big, numberAt}
-use Rattle.record.specs.Layout.{bytesOf}
-use Rattle.record.specs.Reading.{fieldAt, isRecord, readAt}
+use Rattle.record.specs.Fields.{bytesOf}
+use Rattle.record.specs.Walk.{look, taken, step, ended, walkFrom}
+use Rattle.record.specs.Dateless.{recordOf}
+use Rattle.record.specs.Reading.{walked, isRecord, readOf}
 use Rattle.record.specs.AtStation.{receiveBytesOf}
 use Rattle.quynhabet.specs.Layout.{fourFits, inTurn, numbersOf, stationOf, stationFits, messageNumbers, messageOf, messageFits}
 use Rattle.quynhabet.specs.Exports.{freshBy, checkOf, addBy, drawBy, receiveBy, showBy, readBy, writeBy}
@@ -51,5 +53,5 @@ unfolding addOf drawOf showOf receiveOf takeOf stationSound messageSound allBelo
 wrong-parts-ruled-out = tt
 
 pub wrong-exports-ruled-out : T (ruledOut wrongExports)
-unfolding freshStation addOf drawOf receiveOf receiveBytesOf takeOf stationSound messageSound allBelow bytesOf big numberAt fieldAt isRecord readAt fourFits inTurn numbersOf stationOf stationFits messageNumbers messageOf messageFits freshBy checkOf addBy drawBy receiveBy showBy readBy writeBy
+unfolding freshStation addOf drawOf receiveOf receiveBytesOf takeOf stationSound messageSound allBelow recordOf bytesOf big numberAt look taken step ended walkFrom walked isRecord readOf fourFits inTurn numbersOf stationOf stationFits messageNumbers messageOf messageFits freshBy checkOf addBy drawBy receiveBy showBy readBy writeBy
 wrong-exports-ruled-out = tt

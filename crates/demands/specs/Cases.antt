@@ -8,7 +8,7 @@ use Rattle.station.specs.declared.station.Station.{Station}
 use Rattle.rules.specs.declared.message.Message.{Message}
 use Rattle.station.specs.declared.outcome.Outcome.{Outcome}
 use Rattle.station.specs.Steps.{blank, putStock, addOf, receiveOf}
-use Rattle.record.specs.Layout.{bytesOf}
+use Rattle.record.specs.Dateless.{recordOf}
 use Rattle.record.specs.Reading.{readOf}
 use Rattle.demands.specs.Samples.{station1, from0, slot, token, numbersOf}
 
@@ -28,7 +28,7 @@ adds amount = let r = addOf (putStock (blank 1 2) 0 999999999) amount in r .answ
 
 -- station 0 with value 10 and fresh clocks, to station 1
 abbrev pub printed : List ℕ
-printed = bytesOf (from0 10 0 0 NoSlot NoToken)
+printed = recordOf (from0 10 0 0 NoSlot NoToken)
 
 abbrev told : List ℕ → List ℕ
 told bytes = let r = readOf bytes in r .answer ∷ r .result ∷ []

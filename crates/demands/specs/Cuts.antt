@@ -3,13 +3,13 @@
 use Prim.Native.Nat.{ℕ}
 use mathlib.Core.List.{List, [], _∷_, map}
 use lib.ListN.{take}
-use Rattle.record.specs.Layout.{bytesOf}
+use Rattle.record.specs.Dateless.{recordOf}
 use Rattle.record.specs.Reading.{readOf}
 use Rattle.demands.specs.Samples.{from0, slot, token}
 
 -- 68 bytes: a slot and a token
 abbrev pub whole : List ℕ
-whole = bytesOf (from0 3 1 1 (slot 0 0 5) (token 0 0 5))
+whole = recordOf (from0 3 1 1 (slot 0 0 5) (token 0 0 5))
 
 -- the answer and the result for the first bytes of it
 abbrev pub cutTo : ℕ → List ℕ

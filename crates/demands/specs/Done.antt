@@ -8,7 +8,7 @@ use Rattle.rules.specs.Stock.{addedTo, drawnFrom}
 use Rattle.rules.specs.Taking.{takenOf}
 use Rattle.station.specs.Side.{sideFor}
 use Rattle.station.specs.Steps.{freshOf as freshStation, addOf, drawOf, showOf, receiveOf, messageFor}
-use Rattle.record.specs.Layout.{bytesOf}
+use Rattle.record.specs.Dateless.{recordOf}
 use Rattle.record.specs.Reading.{readOf}
 use Rattle.record.specs.Writing.{written, writeAnswer}
 use Rattle.record.specs.AtStation.{writeForAnswer, receiveBytesOf}
@@ -54,13 +54,13 @@ doneAnswers =
     -- receive
     ∷ receiveOf asked pays .answer
     -- read
-    ∷ readOf (bytesOf pays) .answer
+    ∷ readOf (recordOf pays) .answer
     -- write
-    ∷ written (writeAnswer pays 49) (bytesOf pays) .answer
+    ∷ written (writeAnswer pays 49) (recordOf pays) .answer
     -- write_message
-    ∷ written (writeForAnswer gave 0 49) (bytesOf (messageFor gave 0)) .answer
+    ∷ written (writeForAnswer gave 0 49) (recordOf (messageFor gave 0)) .answer
     -- receive_bytes
-    ∷ receiveBytesOf asked (bytesOf pays) .answer
+    ∷ receiveBytesOf asked (recordOf pays) .answer
     -- fresh_table
     ∷ freshOf 2 .answer
     -- step: an add, a draw, a send, a delivery and a loss

@@ -11,7 +11,7 @@ use Rattle.rules.specs.declared.message.Message.{Message}
 use Rattle.station.specs.Side.{putSide}
 use Rattle.station.specs.Sound.{stationSound, messageSound}
 use Rattle.station.specs.Steps.{blank, receiveOf}
-use Rattle.record.specs.Layout.{bytesOf}
+use Rattle.record.specs.Dateless.{recordOf}
 use Rattle.record.specs.Reading.{readOf}
 use Rattle.record.specs.AtStation.{receiveBytesOf}
 use Rattle.steps.specs.declared.asked.Step.{Step}
@@ -29,7 +29,7 @@ between from to = record { from = from; to = to; value = 0; source = record { 0 
 
 -- the answers of station 1 of 3 to a message, and to its record
 abbrev answersTo : Message → List ℕ
-answersTo m = receiveOf (blank 1 3) m .answer ∷ receiveBytesOf (blank 1 3) (bytesOf m) .answer ∷ []
+answersTo m = receiveOf (blank 1 3) m .answer ∷ receiveBytesOf (blank 1 3) (recordOf m) .answer ∷ []
 
 -- a message of which no two numbers share a byte
 abbrev written : HeldSlot → HeldToken → Message
@@ -109,17 +109,17 @@ namedCases =
     }
     -- the 49 bytes of a record with a token, written and read
     ∷ record {
-      gives = bytesOf (written NoSlot aToken) ∷ readAs (frontBytes ++ tokenBytes) ∷ [];
+      gives = recordOf (written NoSlot aToken) ∷ readAs (frontBytes ++ tokenBytes) ∷ [];
       wanted = (frontBytes ++ tokenBytes) ∷ (0 ∷ 49 ∷ messageNumbers (written NoSlot aToken)) ∷ [];
     }
     -- the 49 bytes of a record with a slot
     ∷ record {
-      gives = bytesOf (written aSlot NoToken) ∷ readAs (frontBytes ++ slotBytes) ∷ [];
+      gives = recordOf (written aSlot NoToken) ∷ readAs (frontBytes ++ slotBytes) ∷ [];
       wanted = (frontBytes ++ slotBytes) ∷ (0 ∷ 49 ∷ messageNumbers (written aSlot NoToken)) ∷ [];
     }
     -- the 68 bytes of a record with both
     ∷ record {
-      gives = bytesOf (written aSlot aToken) ∷ readAs (frontBytes ++ slotBytes ++ tokenBytes) ∷ [];
+      gives = recordOf (written aSlot aToken) ∷ readAs (frontBytes ++ slotBytes ++ tokenBytes) ∷ [];
       wanted = (frontBytes ++ slotBytes ++ tokenBytes) ∷ (0 ∷ 68 ∷ messageNumbers (written aSlot aToken)) ∷ [];
     }
     -- both, the token first: no record

@@ -18,7 +18,7 @@ use Rattle.station.specs.Side.{putSide}
 use Rattle.station.specs.Sound.{countSound, stationSound, messageSound}
 use Rattle.rules.specs.Message.{noMessage}
 use Rattle.station.specs.Steps.{blank, putStock, freshOf, addOf, drawOf, showOf, receiveOf, messageFor}
-use Rattle.record.specs.Layout.{bytesOf}
+use Rattle.record.specs.Dateless.{recordOf}
 use Rattle.record.specs.Reading.{readOf}
 use Rattle.record.specs.Writing.{written, left, writeAnswer}
 use Rattle.record.specs.AtStation.{writeForAnswer, receiveBytesOf}
@@ -105,23 +105,23 @@ wrongs =
     ∷ record { promised = flat (numbersOf (receiveOf asked pays)); wrong = 11 ∷ 0 ∷ 0 ∷ 0 ∷ 2 ∷ 0 ∷ 1 ∷ 0 ∷ 0 ∷ 5 ∷ [] }
     ∷ record { promised = flat (numbersOf (receiveOf (receiveOf asked pays .station) pays)); wrong = 0 ∷ 5 ∷ 1 ∷ 0 ∷ 0 ∷ 12 ∷ 0 ∷ 1 ∷ [] }
     -- read: swaps the two clocks; tells no length
-    ∷ record { promised = let r = readOf (bytesOf pays) in r .result ∷ messageOf (r .answer) (r .message); wrong = 49 ∷ 0 ∷ 0 ∷ 1 ∷ 3 ∷ 0 ∷ 1 ∷ 0 ∷ 0 ∷ 5 ∷ [] }
-    ∷ record { promised = let r = readOf (bytesOf pays) in r .result ∷ messageOf (r .answer) (r .message); wrong = 0 ∷ 0 ∷ 0 ∷ 1 ∷ 3 ∷ 1 ∷ 0 ∷ 0 ∷ 0 ∷ 5 ∷ [] }
+    ∷ record { promised = let r = readOf (recordOf pays) in r .result ∷ messageOf (r .answer) (r .message); wrong = 49 ∷ 0 ∷ 0 ∷ 1 ∷ 3 ∷ 0 ∷ 1 ∷ 0 ∷ 0 ∷ 5 ∷ [] }
+    ∷ record { promised = let r = readOf (recordOf pays) in r .result ∷ messageOf (r .answer) (r .message); wrong = 0 ∷ 0 ∷ 0 ∷ 1 ∷ 3 ∷ 1 ∷ 0 ∷ 0 ∷ 0 ∷ 5 ∷ [] }
     -- write: clears the byte past the record; writes into a buffer that is too short
     ∷ record {
-      promised = wrote (writeAnswer pays 50) (bytesOf pays) (replicate 50 7);
-      wrong = (0 ∷ 49 ∷ []) ++ bytesOf pays ++ (0 ∷ []);
+      promised = wrote (writeAnswer pays 50) (recordOf pays) (replicate 50 7);
+      wrong = (0 ∷ 49 ∷ []) ++ recordOf pays ++ (0 ∷ []);
     }
-    ∷ record { promised = wrote (writeAnswer pays 48) (bytesOf pays) (replicate 48 7); wrong = (14 ∷ 0 ∷ 1 ∷ []) ++ replicate 47 7 }
+    ∷ record { promised = wrote (writeAnswer pays 48) (recordOf pays) (replicate 48 7); wrong = (14 ∷ 0 ∷ 1 ∷ []) ++ replicate 47 7 }
     -- write_message: has a record for itself; tells no length
-    ∷ record { promised = wrote (writeForAnswer gave 1 50) (bytesOf (messageFor gave 1)) []; wrong = 0 ∷ 49 ∷ [] }
+    ∷ record { promised = wrote (writeForAnswer gave 1 50) (recordOf (messageFor gave 1)) []; wrong = 0 ∷ 49 ∷ [] }
     ∷ record {
-      promised = wrote (writeForAnswer gave 0 49) (bytesOf (messageFor gave 0)) (replicate 49 7);
-      wrong = (0 ∷ 0 ∷ []) ++ bytesOf (messageFor gave 0);
+      promised = wrote (writeForAnswer gave 0 49) (recordOf (messageFor gave 0)) (replicate 49 7);
+      wrong = (0 ∷ 0 ∷ []) ++ recordOf (messageFor gave 0);
     }
     -- receive_bytes: takes a record with a byte behind it; asks for a record before it asks for a
     -- sound station
-    ∷ record { promised = flat (numbersOf (receiveBytesOf asked (bytesOf pays ++ (0 ∷ [])))); wrong = flat (numbersOf (receiveOf asked pays)) }
+    ∷ record { promised = flat (numbersOf (receiveBytesOf asked (recordOf pays ++ (0 ∷ [])))); wrong = flat (numbersOf (receiveOf asked pays)) }
     ∷ record { promised = stockOf (receiveBytesOf (blank 0 0) []); wrong = 9 ∷ 0 ∷ 0 ∷ 0 ∷ [] }
     -- station_is_sound: takes a station with a token for itself; refuses a value of 16,000,000,000
     ∷ record { promised = truth (stationSound (putSide (blank 1 2) 1 (record { value = 0; source = record { 0 = 1 }; destination = record { 0 = 0 }; slot = NoSlot; token = token 0 0 5 }))); wrong = 1 ∷ [] }

@@ -2,7 +2,7 @@
 use Prim.Native.Nat.{ℕ}
 use mathlib.Core.List.{List, [], _∷_, _++_}
 use lib.ListN.{replicate, set, take}
-use Rattle.record.specs.Layout.{bytesOf}
+use Rattle.record.specs.Dateless.{recordOf}
 use Rattle.quynhabet.specs.Layout.{numbersOf, messageNumbers}
 use Rattle.quynhabet.specs.Exports.{Given, freshBy, checkOf, addBy, drawBy, receiveBy, showBy, readBy, writeBy}
 use Rattle.demands.specs.Wrong.{Wrong, stocked, gave, asked, pays}
@@ -46,13 +46,13 @@ wrongExports =
     ∷ record { promised = told (showBy (numbersOf gave) 0 (sevens 49)); wrong = 0 ∷ 0 ∷ 0 ∷ 1 ∷ 0 ∷ 1 ∷ 1 ∷ 2 ∷ 0 ∷ [] }
     ∷ record { promised = told (showBy (numbersOf gave) 0 (sevens 48)); wrong = 14 ∷ 0 ∷ 0 ∷ 1 ∷ 7 ∷ 7 ∷ 7 ∷ 7 ∷ 7 ∷ [] }
     -- qb_station_receive: names no rule; fills a second time
-    ∷ record { promised = told (receiveBy (bytesOf pays) (numbersOf asked)); wrong = 0 ∷ 5 ∷ 0 ∷ 1 ∷ 2 ∷ 7 ∷ 0 ∷ 0 ∷ 1 ∷ [] }
+    ∷ record { promised = told (receiveBy (recordOf pays) (numbersOf asked)); wrong = 0 ∷ 5 ∷ 0 ∷ 1 ∷ 2 ∷ 7 ∷ 0 ∷ 0 ∷ 1 ∷ [] }
     ∷ record {
-      promised = told (receiveBy (bytesOf pays) (receiveBy (bytesOf pays) (numbersOf asked) .lent));
+      promised = told (receiveBy (recordOf pays) (receiveBy (recordOf pays) (numbersOf asked) .lent));
       wrong = 0 ∷ 5 ∷ 1 ∷ 1 ∷ 2 ∷ 12 ∷ 0 ∷ 0 ∷ 1 ∷ [];
     }
     -- qb_record_read: swaps the two clocks; clears what was lent where it refuses
-    ∷ record { promised = told (readBy (bytesOf pays) (sevens 13)); wrong = 0 ∷ 49 ∷ 0 ∷ 0 ∷ 1 ∷ 3 ∷ 0 ∷ 1 ∷ 0 ∷ [] }
+    ∷ record { promised = told (readBy (recordOf pays) (sevens 13)); wrong = 0 ∷ 49 ∷ 0 ∷ 0 ∷ 1 ∷ 3 ∷ 0 ∷ 1 ∷ 0 ∷ [] }
     ∷ record { promised = told (readBy [] (sevens 13)); wrong = 9 ∷ 0 ∷ 0 ∷ 0 ∷ 0 ∷ 0 ∷ 0 ∷ 0 ∷ 0 ∷ [] }
     -- qb_record_write: refuses a sound message; takes numbers in a slot that is not held
     ∷ record { promised = told (writeBy (messageNumbers pays) (sevens 50)); wrong = 9 ∷ 0 ∷ 0 ∷ 7 ∷ 7 ∷ 7 ∷ 7 ∷ 7 ∷ 7 ∷ [] }

@@ -12,7 +12,7 @@ use Rattle.rules.specs.Report.{noReport, rulesOf}
 use Rattle.station.specs.Sound.{stationSound}
 use Rattle.station.specs.Steps.{freshOf, addOf, drawOf, messageFor}
 use Rattle.record.specs.declared.reading.Reading.{Reading}
-use Rattle.record.specs.Layout.{bytesOf}
+use Rattle.record.specs.Dateless.{recordOf}
 use Rattle.record.specs.Reading.{readOf}
 use Rattle.record.specs.Writing.{written, left, writeAnswer}
 use Rattle.record.specs.AtStation.{writeForAnswer, receiveBytesOf}
@@ -92,7 +92,7 @@ Receives before bytes r later = Gives (receiveBy bytes before) r later
 unfoldable pub showBy : List ℕ → ℕ → List ℕ → Given
 showBy numbers to before =
     cond (stationFits numbers)
-    (writtenBy (writeForAnswer (stationOf numbers) to (length before)) (bytesOf (messageFor (stationOf numbers) to)) before)
+    (writtenBy (writeForAnswer (stationOf numbers) to (length before)) (recordOf (messageFor (stationOf numbers) to)) before)
     (refusedBy notSound before)
 
 abbrev pub Shows : List ℕ → ℕ → List ℕ → Told → List ℕ → Type 0
@@ -111,7 +111,7 @@ Reads bytes before r later = Gives (readBy bytes before) r later
 -- a message's numbers are written as a record; numbers that are no message are not sound
 unfoldable pub writeBy : List ℕ → List ℕ → Given
 writeBy numbers before =
-    cond (messageFits numbers) (writtenBy (writeAnswer (messageOf numbers) (length before)) (bytesOf (messageOf numbers)) before) (refusedBy noRecord before)
+    cond (messageFits numbers) (writtenBy (writeAnswer (messageOf numbers) (length before)) (recordOf (messageOf numbers)) before) (refusedBy noRecord before)
 
 abbrev pub WritesNumbers : List ℕ → List ℕ → Told → List ℕ → Type 0
 WritesNumbers numbers before r later = Gives (writeBy numbers before) r later

@@ -1,8 +1,8 @@
 -- Laws of a number's bytes. Assumes nothing.
-use Prim.Native.Nat.{ℕ, _+_, _*_, _/_, _%_, _^_, _<_}
+use Prim.Native.Nat.{ℕ, zero, suc, _+_, _*_, _/_, _%_, _^_, _<_}
 use mathlib.Core.Path.{_≡_, refl}
 use mathlib.Core.List.{List, [], _∷_, _++_}
-use native.Mathlib.Nat.{pow-suc, pow-le-pow-right, lt-of-lt-of-le}
+use native.Mathlib.Nat.{add-zero, add-suc, add-assoc, add-mul, mul-assoc, pow-suc, pow-le-pow-right, lt-of-lt-of-le}
 use native.Mathlib.Numerals.{add-one}
 use native.Mathlib.Omega.{arith}
 use lib.Dec.{lit<}
@@ -38,3 +38,10 @@ put-turn b at j k x e = rw (← e, put-more j x, ← last-first b at (x % 256) (
 pub put-none : (b : List ℕ) (at k x : ℕ) → k ≡ 0 → b ≡ sets b at (big k x)
 unfolding big
 put-none b at k x e = rw e
+
+-- a number in two parts
+pub in-parts : (bytes : List ℕ) (at m n : ℕ) → numberAt bytes at (m + n) ≡ numberAt bytes at m * 256 ^ n + numberAt bytes (at + m) n
+unfolding numberAt
+in-parts bytes at m zero = rw add-zero (omega arith)
+in-parts bytes at m (suc n) =
+    rw (add-suc, in-parts bytes at m n, pow-suc, add-mul, mul-assoc, ← add-assoc at m n) (omega arith)

@@ -1,58 +1,112 @@
--- What an accepted reading and a refused one say of the bytes read: bytes accepted as a message are
--- exactly those that writing it gives. Assumes nothing.
-use Prim.Native.Nat.{ℕ, _-_}
+-- Bytes that are read without a fault are exactly the bytes of what was read, for any table.
+-- Assumes nothing.
+use Prim.Native.Nat.{ℕ, _+_, _≤_, _<_, _^_}
 use mathlib.Core.Path.{_≡_, refl, ap, sym, _∙_}
-use mathlib.Core.Logic.{_⊎_, inl, inr, ⊎-elim}
-use mathlib.Core.List.{List}
-use mathlib.Core.Bool.{Bool, true, false, cond, and-false}
+use mathlib.Core.List.{List, [], _∷_, _++_, append-assoc, append-nil}
+use mathlib.Core.Bool.{Bool, true, false, cond}
 use native.Mathlib.Omega.{arith}
-use native.Mathlib.Nat.{sub-zero}
-use lib.ListN.{length}
-use Rattle.station.specs.Sound.{messageSound}
-use Rattle.rules.proofs.Below.{needed}
-use Rattle.record.specs.declared.reading.Reading.{Reading}
-use Rattle.record.specs.Numbers.{Bytes}
-use Rattle.record.specs.Layout.{bytesOf}
-use Rattle.record.specs.Reading.{messageAt, endAt, isRecord, noReading, readAt, readOf}
-use Rattle.record.proofs.Tests.{equal}
-use Rattle.record.proofs.Fields.{record-is}
+use native.Mathlib.Nat.{add-assoc, add-zero}
+use lib.Dec.{eqb}
+use lib.ListN.{length, drop}
+use lib.Seq.{drop-length}
+use borrow.Author.Tests.{eqb-true}
+use Rattle.record.specs.Faults.{unsoundNumber, extra}
+use Rattle.record.specs.Numbers.{Bytes, big, numberAt}
+use Rattle.record.specs.Fields.{Body, missing, body, Field, total, bodyOf, tagged, bytesOf, Fill, Content}
+use Rattle.record.specs.Walk.{Walk, going, stopped, Look, here, away, fault, look, numbersAt, taken, step, ended, none, walkFrom}
+use Rattle.record.proofs.Digits.{digits-first, number-below}
+use Rattle.record.proofs.Looks.{is-here, away-may}
 
-ways : (t : Bool) (r : Reading) → r .answer ≡ 0
-    → ((cond t r noReading .answer ≡ 0) × (t ≡ true)) ⊎ ((cond t r noReading .answer ≡ 9) × (t ≡ false))
-ways true r e = inl (e, refl)
-ways false r e = inr (refl, refl)
+-- what a walkFrom from a byte onwards has read
+pub record Read (bytes : List ℕ) (fs : List Field) (at : ℕ) (before : List Body) (end : ℕ) (content : List Body) : Type 0 where
+  pub bodies : List Body
+  pub all : content ≡ before ++ bodies
+  pub may : Content fs before bodies
+  pub form : drop at bytes ≡ bytesOf fs bodies
+  pub whole : end ≡ length bytes
 
--- the answer is 0 or 9, and 0 exactly if the bytes are a record
-pub two-answers : (bytes : List ℕ) → ((readOf bytes .answer ≡ 0) × (isRecord bytes 0 ≡ true)) ⊎ ((readOf bytes .answer ≡ 9) × (isRecord bytes 0 ≡ false))
-unfolding readAt
-two-answers bytes = ways (isRecord bytes 0) (record { answer = 0; result = endAt bytes 0 - 0; message = messageAt bytes 0 }) refl
+pub stays : (bytes : List ℕ) (fs : List Field) (answer place : ℕ) → walkFrom bytes fs (stopped answer place) ≡ stopped answer place
+unfolding walkFrom step ended
+stays bytes [] answer place = refl
+stays bytes (f ∷ fs) answer place = stays bytes fs answer place
 
-pub refused-whole : (bytes : List ℕ) → readOf bytes .answer ≡ 9 → readOf bytes ≡ noReading
-unfolding readAt
-refused-whole bytes e = ⊎-elim (λ w. absurd (omega arith)) (λ w. rw (w .1)) (two-answers bytes)
+no-end : (a p end : ℕ) (content : List Body) → stopped a p ≡ going end content → ⊥
+no-end a p end content e = let z : _≡_ {A = ℕ} 0 1 = cc in omega arith
 
-accepted : (bytes : List ℕ) → readOf bytes .answer ≡ 0 → isRecord bytes 0 ≡ true
-accepted bytes e = ⊎-elim (λ w. w .1) (λ w. absurd (omega arith)) (two-answers bytes)
+module _ (bytes : List ℕ) (b : Bytes bytes) where
+  fill : (at : ℕ) (sizes : List ℕ) → Fill sizes (numbersAt bytes at sizes)
+  fill at [] = tt
+  fill at (size ∷ sizes) = (number-below bytes at size b, fill (at + size) sizes)
 
-accepted-whole : (bytes : List ℕ) → readOf bytes .answer ≡ 0 → readOf bytes ≡ record { answer = 0; result = length bytes; message = messageAt bytes 0 }
-unfolding readAt isRecord
-accepted-whole bytes e =
-    let r = accepted bytes e in
-    let end = equal (endAt bytes 0) (length bytes) (λ g. simp (g, and-false) at r) in
-    rw (r, end, sub-zero)
+  body-is : (at : ℕ) (sizes : List ℕ) → at + total sizes ≤ length bytes → drop at bytes ≡ bodyOf sizes (numbersAt bytes at sizes) ++ drop (at + total sizes) bytes
+  body-is at [] h = rw add-zero
+  body-is at (size ∷ sizes) h =
+      let first = digits-first bytes at size b (omega arith) in
+      let rest = body-is (at + size) sizes (omega arith) in
+      first ∙ ap (λ (l : List ℕ). big size (numberAt bytes at size) ++ l) rest ∙ rw (append-assoc, add-assoc)
 
-pub accepted-length : (bytes : List ℕ) → readOf bytes .answer ≡ 0 → readOf bytes .result ≡ length bytes
-accepted-length bytes e = rw (accepted-whole bytes e)
+  field-is : (tag at : ℕ) (sizes : List ℕ) (must last : Bool) → look bytes at tag (total sizes) must last ≡ here
+      → drop at bytes ≡ tagged tag sizes (numbersAt bytes (at + 3) sizes) ++ drop (at + 3 + total sizes) bytes
+  field-is tag at sizes must last e =
+      let h = is-here bytes at tag (total sizes) must last e in
+      let room = h .room in
+      let first = digits-first bytes at 1 b (omega arith) in
+      let second = digits-first bytes (at + 1) 2 b (omega arith) in
+      let third = body-is (at + 3) sizes (omega arith) in
+      let t = h .tag-is in
+      let n = h .size-is in
+      let place : drop (at + 1 + 2) bytes ≡ drop (at + 3) bytes = rw add-assoc in
+      simp append-assoc cc
 
-pub accepted-sound : (bytes : List ℕ) → readOf bytes .answer ≡ 0 → messageSound (readOf bytes .message) ≡ true
-unfolding isRecord
-accepted-sound bytes e =
-    let r = accepted bytes e in
-    rw (accepted-whole bytes e) (needed (messageSound (messageAt bytes 0)) (λ g. simp (g, and-false) at r))
+  module _ (end : ℕ) (content : List Body) where
+    at-end : (at : ℕ) (before : List Body) (t : Bool) → eqb at (length bytes) ≡ t → cond t (going at before) (stopped extra at) ≡ going end content → Read bytes [] at before end content
+    unfolding bytesOf
+    at-end at before true e w =
+        let l = eqb-true at (length bytes) e in
+        record { bodies = []; all = let q : content ≡ before = cc in q ∙ sym (append-nil before); may = tt; form = rw (l, drop-length); whole = cc }
+    at-end at before false e w = absurd (no-end 24 at end content w)
 
-pub exact : (bytes : List ℕ) → Bytes bytes → readOf bytes .answer ≡ 0 → bytes ≡ bytesOf (readOf bytes .message)
-exact bytes b e = record-is bytes b (accepted bytes e) ∙ rw (accepted-whole bytes e)
+    -- what is known of the fields after a field
+    abbrev Rest : List Field → Type 0
+    Rest fs = (at : ℕ) (before : List Body) → at ≤ length bytes → walkFrom bytes fs (going at before) ≡ going end content → Read bytes fs at before end content
 
--- no two byte lists are accepted as one message
-pub one-record : (a b : List ℕ) → Bytes a → Bytes b → readOf a .answer ≡ 0 → readOf b .answer ≡ 0 → readOf a .message ≡ readOf b .message → a ≡ b
-one-record a b p q e f same = exact a p e ∙ ap bytesOf same ∙ sym (exact b q f)
+    module _ (f : Field) (fs : List Field) (rest : Rest fs) (at : ℕ) (before : List Body) where
+      abbrev numbers : List ℕ
+      numbers = numbersAt bytes (at + 3) (f .sizes)
+
+      abbrev seen : Look
+      seen = look bytes at (f .tag) (total (f .sizes)) (f .must) (none fs)
+
+      judged : seen ≡ here → (t : Bool) → f .sound before numbers ≡ t
+          → walkFrom bytes fs (cond t (going (at + 3 + total (f .sizes)) (before ++ (body numbers ∷ []))) (stopped unsoundNumber at)) ≡ going end content
+          → Read bytes (f ∷ fs) at before end content
+      unfolding bytesOf
+      judged e true s w =
+          let r = rest (at + 3 + total (f .sizes)) (before ++ (body numbers ∷ [])) (is-here bytes at (f .tag) (total (f .sizes)) (f .must) (none fs) e .room) w in
+          record {
+            bodies = body numbers ∷ r .bodies;
+            all = r .all ∙ append-assoc before (body numbers ∷ []) (r .bodies);
+            may = ((fill (at + 3) (f .sizes), s), r .may);
+            form = field-is (f .tag) at (f .sizes) (f .must) (none fs) e ∙ ap (λ (l : List ℕ). tagged (f .tag) (f .sizes) numbers ++ l) (r .form);
+            whole = r .whole;
+          }
+      judged e false s w = absurd (no-end unsoundNumber at end content (sym (stays bytes fs 23 at) ∙ w))
+
+      stepped : at ≤ length bytes → (l : Look) → seen ≡ l → walkFrom bytes fs (taken bytes f at before l) ≡ going end content → Read bytes (f ∷ fs) at before end content
+      unfolding bytesOf taken
+      stepped h here e w = judged e (f .sound before numbers) refl w
+      stepped h away e w =
+          let r = rest at (before ++ (missing ∷ [])) h w in
+          record {
+            bodies = missing ∷ r .bodies;
+            all = r .all ∙ append-assoc before (missing ∷ []) (r .bodies);
+            may = (away-may bytes at (f .tag) (total (f .sizes)) (f .must) (none fs) e, r .may);
+            form = r .form;
+            whole = r .whole;
+          }
+      stepped h (fault a p) e w = absurd (no-end a p end content (sym (stays bytes fs a p) ∙ w))
+
+    pub exact : (fs : List Field) → Rest fs
+    unfolding walkFrom step ended
+    exact [] at before h w = at-end at before (eqb at (length bytes)) refl w
+    exact (f ∷ fs) at before h w = stepped f fs (exact fs) at before h (seen f fs (exact fs) at before) refl w

@@ -9,7 +9,7 @@ use Rattle.station.specs.declared.station.Station.{Station}
 use Rattle.station.specs.Steps.{showRefusals, showAnswer, showing, showOf, messageFor}
 use Rattle.station.proofs.Answering.{shown}
 use Rattle.station.proofs.Keeps.{message-sound}
-use Rattle.record.specs.Layout.{bytesOf}
+use Rattle.record.specs.Dateless.{recordOf}
 use Rattle.record.specs.Writing.{written, Writes, writeAnswer}
 use Rattle.record.specs.AtStation.{roomRefusals, writeForAnswer, WritesFor}
 
@@ -25,8 +25,8 @@ refusing (suc n) bytes before f = record { told = refl; buffer = refl }
 pub writes-nothing : (s : Station) (to : ℕ) (before : List ℕ) → (showAnswer s to ≡ 0 → ⊥)
     → WritesFor s to before (record { answer = showAnswer s to; result = 0 }) before
 writes-nothing s to before f =
-    subst (λ (n : ℕ). Writes n (bytesOf (messageFor s to)) before (record { answer = showAnswer s to; result = 0 }) before)
-    (sym (answer-before (showRefusals s to) (roomRefusals s to (length before)) f)) (refusing (showAnswer s to) (bytesOf (messageFor s to)) before f)
+    subst (λ (n : ℕ). Writes n (recordOf (messageFor s to)) before (record { answer = showAnswer s to; result = 0 }) before)
+    (sym (answer-before (showRefusals s to) (roomRefusals s to (length before)) f)) (refusing (showAnswer s to) (recordOf (messageFor s to)) before f)
 
 -- what is shown is sound, so writing it is refused by 14 alone
 pub writes-shown : (s : Station) (to room : ℕ) → showAnswer s to ≡ 0 → writeAnswer (messageFor s to) room ≡ writeForAnswer s to room

@@ -20,12 +20,11 @@ use Rattle.rules.proofs.Refusing.{passed, answer-before}
 use Rattle.station.proofs.Keeps.{message-sound}
 use Rattle.record.specs.declared.reading.Reading.{Reading}
 use Rattle.record.specs.declared.writing.Written.{Written}
-use Rattle.record.specs.Layout.{bytesOf}
+use Rattle.record.specs.Dateless.{recordOf}
 use Rattle.record.specs.Reading.{readOf}
 use Rattle.record.specs.Writing.{Writes, writeAnswer}
 use Rattle.record.specs.AtStation.{roomRefusals, writeForAnswer}
-use Rattle.record.proofs.ReadBack.{read-back}
-use Rattle.record.proofs.Exact.{exact}
+use Rattle.record.proofs.Messages.{read-back, exact, is-record}
 
 -- a write that is done puts all its bytes in front, and tells how many
 pub record Put (answer : ℕ) (bytes : List ℕ) (r : Written) (after : List ℕ) : Type 0 where
@@ -42,14 +41,14 @@ put (suc n) bytes before r after w e = let x : suc n ≡ 0 = rw (w .told) at e i
 abbrev pub ReadsBack : Message → Written → List ℕ → Type 0
 ReadsBack m r after = readOf (take (r .result) after) ≡ record { answer = 0; result = r .result; message = m }
 
-reads-back : (m : Message) (n : ℕ) (r : Written) (after : List ℕ) → messageSound m ≡ true → Put n (bytesOf m) r after → ReadsBack m r after
+reads-back : (m : Message) (n : ℕ) (r : Written) (after : List ℕ) → messageSound m ≡ true → Put n (recordOf m) r after → ReadsBack m r after
 reads-back m n r after sound p = rw (p .front, p .result) (read-back m sound)
 
 -- of a given message, with what `write` promises
 pub written-reads-back : (m : Message) (before : List ℕ) (r : Written) (after : List ℕ)
-    → Writes (writeAnswer m (length before)) (bytesOf m) before r after → r .answer ≡ 0 → ReadsBack m r after
+    → Writes (writeAnswer m (length before)) (recordOf m) before r after → r .answer ≡ 0 → ReadsBack m r after
 written-reads-back m before r after w e =
-    let p = put (writeAnswer m (length before)) (bytesOf m) before r after w e in
+    let p = put (writeAnswer m (length before)) (recordOf m) before r after w e in
     reads-back m _ r after (not-false _ (passed (not (messageSound m)) 8 (p .done) .0)) p
 
 -- where nothing refuses, no earlier condition does
@@ -62,9 +61,9 @@ none-before xs ys e = by (answerOf xs) refl
 
 -- of a station's message for another, with what `write_message` promises
 pub message-reads-back : (s : Station) (to : ℕ) (before : List ℕ) (r : Written) (after : List ℕ)
-    → Writes (writeForAnswer s to (length before)) (bytesOf (messageFor s to)) before r after → r .answer ≡ 0 → ReadsBack (messageFor s to) r after
+    → Writes (writeForAnswer s to (length before)) (recordOf (messageFor s to)) before r after → r .answer ≡ 0 → ReadsBack (messageFor s to) r after
 message-reads-back s to before r after w e =
-    let p = put (writeForAnswer s to (length before)) (bytesOf (messageFor s to)) before r after w e in
+    let p = put (writeForAnswer s to (length before)) (recordOf (messageFor s to)) before r after w e in
     reads-back (messageFor s to) _ r after (message-sound s to (none-before (showRefusals s to) (roomRefusals s to (length before)) (p .done))) p
 
 -- What a lent `&[u8]` holds are bytes: this is the type's own fact, which every function that looks
@@ -73,5 +72,5 @@ abbrev pub HeldAsU8 : List ℕ → Type 0
 HeldAsU8 bytes = (k : ℕ) → Fits w8 (getD bytes k 0)
 
 -- with what `read` promises
-pub accepted-is-written : (bytes : List ℕ) (r : Reading) → HeldAsU8 bytes → r ≡ readOf bytes → r .answer ≡ 0 → bytesOf (r .message) ≡ bytes
-accepted-is-written bytes r u e z = rw e (sym (exact bytes (λ k. u k .fits) (rw e at z)))
+pub accepted-is-written : (bytes : List ℕ) (r : Reading) → HeldAsU8 bytes → r ≡ readOf bytes → r .answer ≡ 0 → recordOf (r .message) ≡ bytes
+accepted-is-written bytes r u e z = rw e (sym (exact bytes (is-record bytes (rw e at z)) (λ k. u k .fits)))

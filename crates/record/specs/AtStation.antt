@@ -11,14 +11,14 @@ use Rattle.station.specs.declared.outcome.Outcome.{Outcome}
 use Rattle.station.specs.Sound.{stationSound}
 use Rattle.station.specs.Steps.{showRefusals, messageFor, endsBelow, fillRefusals, receiveOf}
 use Rattle.record.specs.declared.writing.Written.{Written}
-use Rattle.record.specs.Layout.{bytesOf}
-use Rattle.record.specs.Reading.{messageAt, isRecord, readOf}
+use Rattle.record.specs.Dateless.{recordOf}
+use Rattle.record.specs.Reading.{isRecord, readOf}
 use Rattle.record.specs.Writing.{Writes}
 
 -- what is written is the message that the station shows (1, 2, 3); 14 where the buffer is shorter
 -- than its record
 abbrev pub roomRefusals : Station → ℕ → ℕ → List Refusal
-roomRefusals s to room = when (ltb room (length (bytesOf (messageFor s to)))) shortBuffer ∷ []
+roomRefusals s to room = when (ltb room (length (recordOf (messageFor s to)))) shortBuffer ∷ []
 
 abbrev pub writeForRefusals : Station → ℕ → ℕ → List Refusal
 writeForRefusals s to room = showRefusals s to ++ roomRefusals s to room
@@ -27,7 +27,7 @@ abbrev pub writeForAnswer : Station → ℕ → ℕ → ℕ
 writeForAnswer s to room = answerOf (writeForRefusals s to room)
 
 abbrev pub WritesFor : Station → ℕ → List ℕ → Written → List ℕ → Type 0
-WritesFor s to before r after = Writes (writeForAnswer s to (length before)) (bytesOf (messageFor s to)) before r after
+WritesFor s to before r after = Writes (writeForAnswer s to (length before)) (recordOf (messageFor s to)) before r after
 
 -- receiving bytes is reading them and then receiving that message
 unfoldable pub receiveBytesOf : Station → List ℕ → Outcome
@@ -38,7 +38,7 @@ receiveBytesOf s bytes = receiveOf s (readOf bytes .message)
 abbrev pub receiveBytesRefusals : Station → List ℕ → List Refusal
 receiveBytesRefusals s bytes =
     when (not (stationSound s)) notSound
-    ∷ when (not (isRecord bytes 0)) noRecord
-    ∷ when (not (endsBelow s (messageAt bytes 0))) notBelowCount
-    ∷ when (not (eqb (messageAt bytes 0 .to) (s .number))) forAnother
-    ∷ fillRefusals s (messageAt bytes 0)
+    ∷ when (not (isRecord bytes)) noRecord
+    ∷ when (not (endsBelow s (readOf bytes .message))) notBelowCount
+    ∷ when (not (eqb (readOf bytes .message .to) (s .number))) forAnother
+    ∷ fillRefusals s (readOf bytes .message)

@@ -1,85 +1,115 @@
--- A record read field by field, front to back.
-use Prim.Native.Nat.{ℕ, _+_, _-_}
-use mathlib.Core.List.{List, [], _∷_}
-use mathlib.Core.Bool.{Bool, not, cond, _&&_}
+-- A record read: what the walk over the table comes to.
+use Prim.Native.Nat.{ℕ, zero, suc, _+_}
+use mathlib.Core.Path.{_≡_}
+use mathlib.Core.List.{List, [], _∷_, _++_}
+use mathlib.Core.Bool.{Bool, true, false, _&&_, not}
 use lib.Dec.{leb, eqb}
 use lib.ListN.{length}
 use Rattle.rules.specs.declared.clocks.SourceClock.{SourceClock}
 use Rattle.rules.specs.declared.clocks.DestinationClock.{DestinationClock}
-use Rattle.rules.specs.declared.held.HeldSlot.{HeldSlot}
-use Rattle.rules.specs.declared.held.HeldSlot.the-variants.{NoSlot, OneSlot}
-use Rattle.rules.specs.declared.held.HeldToken.{HeldToken}
-use Rattle.rules.specs.declared.held.HeldToken.the-variants.{NoToken, OneToken}
-use Rattle.rules.specs.declared.message.Message.{Message}
 use Rattle.rules.specs.Answers.{done, noRecord}
-use Rattle.station.specs.Sound.{messageSound}
 use Rattle.rules.specs.Message.{noMessage}
 use Rattle.rules.specs.Refusals.{Refusal, when}
+use Rattle.record.specs.declared.fields.Line.{Line}
+use Rattle.record.specs.declared.fields.Cursor.{Cursor}
+use Rattle.record.specs.declared.front.Ends.{Ends}
+use Rattle.record.specs.declared.front.Front.{Front}
+use Rattle.record.specs.declared.held.AfterSlot.{AfterSlot}
+use Rattle.record.specs.declared.held.AfterToken.{AfterToken}
+use Rattle.record.specs.declared.walking.Walked.{Walked}
 use Rattle.record.specs.declared.reading.Reading.{Reading}
 use Rattle.record.specs.Numbers.{numberAt}
+use Rattle.record.specs.Fields.{Body, body, Field, numberOf, total}
+use Rattle.record.specs.Walk.{Walk, going, stopped, Look, here, away, fault, look, step, walk}
+use Rattle.record.specs.Dateless.{dateless, fromField, toField, valueField, clocksField, slotField, tokenField, slotBody, tokenBody, messageIn}
+
+-- In the code a fault is a number other than 0 beside its place, and 0 beside a place says that
+-- reading goes on there.
+abbrev pub stood : ℕ → ℕ → List Body → Walk
+stood zero at bodies = going at bodies
+stood (suc n) at bodies = stopped (suc n) at
 
 -- a whole field of this tag and length stands at a position
-unfoldable pub fieldAt : List ℕ → ℕ → ℕ → ℕ → Bool
-fieldAt bytes at tag size = leb (at + 3 + size) (length bytes) && eqb (numberAt bytes at 1) tag && eqb (numberAt bytes (at + 1) 2) size
+unfoldable pub wholeAt : List ℕ → ℕ → ℕ → ℕ → Bool
+wholeAt bytes at tag size =
+    leb (at + 3 + size) (length bytes) && eqb (numberAt bytes at 1) tag && eqb (numberAt bytes (at + 1) 2) size
 
--- fields 1 to 4 stand one after the other
-abbrev pub headAt : List ℕ → ℕ → Bool
-headAt bytes at = fieldAt bytes at 1 1 && fieldAt bytes (at + 4) 2 1 && fieldAt bytes (at + 8) 3 8 && fieldAt bytes (at + 19) 4 8
+-- past a field that is there, at the same byte where it is away
+abbrev pub cursorAt : ℕ → ℕ → Look → Cursor
+cursorAt at size here = record { answer = done; at = at + 3 + size }
+cursorAt at size away = record { answer = done; at = at }
+cursorAt at size (fault n place) = record { answer = n; at = place }
 
-abbrev pub sourceAt : List ℕ → ℕ → SourceClock
-sourceAt bytes at = record { 0 = numberAt bytes at 4 }
+-- a line of the table as the code has it
+abbrev pub lineFor : Field → Bool → Line
+lineFor f last = record { tag = f .tag; size = total (f .sizes); must = f .must; last = last }
 
-abbrev pub destinationAt : List ℕ → ℕ → DestinationClock
-destinationAt bytes at = record { 0 = numberAt bytes at 4 }
+unfoldable pub nextOf : List ℕ → ℕ → Line → Cursor
+nextOf bytes at line = cursorAt at (line .size) (look bytes at (line .tag) (line .size) (line .must) (line .last))
 
--- field 5 or field 6, if it stands at a position
-abbrev pub slotAt : List ℕ → ℕ → HeldSlot
-slotAt bytes at =
-    cond (fieldAt bytes at 5 16)
-    (OneSlot (record { source = sourceAt bytes (at + 3); destination = destinationAt bytes (at + 7); quantity = numberAt bytes (at + 11) 8 }))
-    NoSlot
+-- fields 1 and 2, then 1 to 4, as the code holds them once they are read
+unfoldable pub endsWalk : List ℕ → Walk
+endsWalk bytes = step bytes toField false (step bytes fromField false (going 0 []))
 
-abbrev pub tokenAt : List ℕ → ℕ → HeldToken
-tokenAt bytes at =
-    cond (fieldAt bytes at 6 16)
-    (OneToken (record { source = sourceAt bytes (at + 3); destination = destinationAt bytes (at + 7); quantity = numberAt bytes (at + 11) 8 }))
-    NoToken
+abbrev pub endsBodies : ℕ → ℕ → List Body
+endsBodies from to = body (from ∷ []) ∷ body (to ∷ []) ∷ []
 
--- the position past such a field, or the same position where it is missing
-abbrev pub pastHeld : List ℕ → ℕ → ℕ → ℕ
-pastHeld bytes at tag = cond (fieldAt bytes at tag 16) (at + 19) at
+abbrev pub noEnds : ℕ → ℕ → Ends
+noEnds n place = record { answer = n; at = place; from = 0; to = 0 }
 
-abbrev pub messageAt : List ℕ → ℕ → Message
-messageAt bytes at =
-    record {
-      from = numberAt bytes (at + 3) 1;
-      to = numberAt bytes (at + 7) 1;
-      value = numberAt bytes (at + 11) 8;
-      source = sourceAt bytes (at + 22);
-      destination = destinationAt bytes (at + 26);
-      slot = slotAt bytes (at + 30);
-      token = tokenAt bytes (pastHeld bytes (at + 30) 5);
-    }
+unfoldable pub frontWalk : List ℕ → Walk
+frontWalk bytes = step bytes clocksField false (step bytes valueField false (endsWalk bytes))
 
--- the position past the last field
-abbrev pub endAt : List ℕ → ℕ → ℕ
-endAt bytes at = pastHeld bytes (pastHeld bytes (at + 30) 5) 6
+abbrev pub frontBodies : Front → List Body
+frontBodies f =
+    body (f .from ∷ []) ∷ body (f .to ∷ []) ∷ body (f .value ∷ []) ∷ body (f .source .0 ∷ f .destination .0 ∷ []) ∷ []
 
--- bytes are a record exactly if they have this form, with nothing after, and their message is sound
-unfoldable pub isRecord : List ℕ → ℕ → Bool
-isRecord bytes at = headAt bytes at && eqb (endAt bytes at) (length bytes) && messageSound (messageAt bytes at)
+abbrev pub noFront : ℕ → ℕ → Front
+noFront n place =
+    record { answer = n; at = place; from = 0; to = 0; value = 0; source = record { 0 = 0 }; destination = record { 0 = 0 } }
+
+-- fields 5 and 6, after any fields before that show these clocks of the sender's
+abbrev pub SlotNext : List ℕ → ℕ → DestinationClock → AfterSlot → Type 0
+SlotNext bytes at clock r =
+    (before : List Body) → numberOf before 3 1 ≡ clock .0
+    → step bytes slotField false (going at before) ≡ stood (r .answer) (r .at) (before ++ (slotBody (r .slot) ∷ []))
+
+abbrev pub TokenNext : List ℕ → ℕ → SourceClock → AfterToken → Type 0
+TokenNext bytes at clock r =
+    (before : List Body) → numberOf before 3 0 ≡ clock .0
+    → step bytes tokenField true (going at before) ≡ stood (r .answer) (r .at) (before ++ (tokenBody (r .token) ∷ []))
+
+-- what the walk comes to: a message and the record's end, or a fault's number and its place
+abbrev pub stopsAt : ℕ → ℕ → Walked
+stopsAt n place = record { answer = n; at = place; message = noMessage }
+
+abbrev pub walkedOf : Walk → Walked
+walkedOf (going at bodies) = record { answer = done; at = at; message = messageIn bodies }
+walkedOf (stopped n place) = stopsAt n place
+
+unfoldable pub walked : List ℕ → Walked
+walked bytes = walkedOf (walk dateless bytes)
+
+-- bytes are a record exactly if the walk over them ends with no fault
+abbrev pub goes : Walk → Bool
+goes (going at bodies) = true
+goes (stopped n place) = false
+
+unfoldable pub isRecord : List ℕ → Bool
+isRecord bytes = goes (walk dateless bytes)
 
 -- a refused reading: every number 0 and nothing held
 abbrev pub noReading : Reading
 noReading = record { answer = noRecord; result = 0; message = noMessage }
 
--- the record that stands at a position and goes on to the end of the bytes
-unfoldable pub readAt : List ℕ → ℕ → Reading
-readAt bytes at = cond (isRecord bytes at) (record { answer = done; result = endAt bytes at - at; message = messageAt bytes at }) noReading
+-- any fault is answer 9
+abbrev pub readingOf : ℕ → Walked → Reading
+readingOf zero w = record { answer = done; result = w .at; message = w .message }
+readingOf (suc n) w = noReading
 
-abbrev pub readOf : List ℕ → Reading
-readOf bytes = readAt bytes 0
+unfoldable pub readOf : List ℕ → Reading
+readOf bytes = readingOf (walked bytes .answer) (walked bytes)
 
 -- 9 where the bytes are no record
 abbrev pub readRefusals : List ℕ → List Refusal
-readRefusals bytes = when (not (isRecord bytes 0)) noRecord ∷ []
+readRefusals bytes = when (not (isRecord bytes)) noRecord ∷ []

@@ -5,12 +5,27 @@ use mathlib.Core.List.{List, [], _∷_, _++_}
 use mathlib.Core.Bool.{not}
 use lib.Dec.{ltb}
 use lib.ListN.{length, drop}
+use Rattle.rules.specs.declared.held.HeldSlot.{HeldSlot}
+use Rattle.rules.specs.declared.held.HeldToken.{HeldToken}
 use Rattle.rules.specs.declared.message.Message.{Message}
 use Rattle.rules.specs.Answers.{done, noRecord, shortBuffer}
 use Rattle.station.specs.Sound.{messageSound}
 use Rattle.rules.specs.Refusals.{Refusal, when, answerOf}
 use Rattle.record.specs.declared.writing.Written.{Written}
-use Rattle.record.specs.Layout.{bytesOf}
+use Rattle.record.specs.Fields.{tagged, fieldOf}
+use Rattle.record.specs.Dateless.{slotField, tokenField, slotBody, tokenBody, recordOf}
+
+-- the parts of a record, for the code: fields 1 to 4, which every record has, then 5 and 6
+abbrev pub front : Message → List ℕ
+front m =
+    tagged 1 (1 ∷ []) (m .from ∷ []) ++ tagged 2 (1 ∷ []) (m .to ∷ []) ++ tagged 3 (8 ∷ []) (m .value ∷ [])
+    ++ tagged 4 (4 ∷ 4 ∷ []) (m .source .0 ∷ m .destination .0 ∷ [])
+
+abbrev pub slotBytes : HeldSlot → List ℕ
+slotBytes h = fieldOf slotField (slotBody h)
+
+abbrev pub tokenBytes : HeldToken → List ℕ
+tokenBytes h = fieldOf tokenField (tokenBody h)
 
 -- the result is the record's length; a refusal's is 0
 abbrev pub written : ℕ → List ℕ → Written
@@ -29,10 +44,10 @@ pub record Writes (answer : ℕ) (bytes before : List ℕ) (r : Written) (after 
 
 -- a given message: 9 where it is not sound, 14 where the buffer is shorter than its record
 abbrev pub writeRefusals : Message → ℕ → List Refusal
-writeRefusals m room = when (not (messageSound m)) noRecord ∷ when (ltb room (length (bytesOf m))) shortBuffer ∷ []
+writeRefusals m room = when (not (messageSound m)) noRecord ∷ when (ltb room (length (recordOf m))) shortBuffer ∷ []
 
 abbrev pub writeAnswer : Message → ℕ → ℕ
 writeAnswer m room = answerOf (writeRefusals m room)
 
 abbrev pub WritesGiven : Message → List ℕ → Written → List ℕ → Type 0
-WritesGiven m before r after = Writes (writeAnswer m (length before)) (bytesOf m) before r after
+WritesGiven m before r after = Writes (writeAnswer m (length before)) (recordOf m) before r after

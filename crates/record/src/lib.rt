@@ -1,10 +1,15 @@
 // The message as bytes: one record, read and written, and one station on bytes.
 pub mod at_station;
-mod finding;
+mod faults;
+mod fields;
+mod front;
+mod held;
 mod numbers;
 mod putting;
 mod reader;
 pub mod reading;
+mod table;
+mod walking;
 pub mod writing;
 
 pub use at_station::receive_bytes;

@@ -1,11 +1,12 @@
 // The fields of a record put at a position of a slice.
 ghost use mathlib.Core.Path.{_≡_};
-ghost use mathlib.Core.List.{_++_};
+ghost use mathlib.Core.List.{[], _∷_, _++_};
 ghost use Prim.Native.Nat.{_+_, _≤_};
 ghost use lib.ListN.{length};
 ghost use lib.Seq.{sets};
 ghost use Rattle.record.specs.Numbers.{big};
-ghost use Rattle.record.specs.Layout.{field, clocks, held, slotField, tokenField};
+ghost use Rattle.record.specs.Fields.{tagged};
+ghost use Rattle.record.specs.Writing.{slotBytes, tokenBytes};
 use crate::numbers::put_number;
 use rules::clocks::DestinationClock;
 use rules::clocks::SourceClock;
@@ -24,7 +25,7 @@ pub(crate) fn put_head(buffer: &mut [u8], at: usize, tag: u64, size: u64)
 // A field whose body is one number.
 pub(crate) fn put_field(buffer: &mut [u8], at: usize, tag: u64, size: usize, x: u64)
     requires { ⌜ at + 3 + size ≤ length (now buffer) ⌝ }
-    ensures { λ _. ⌜ now (buffer .exit) ≡ sets (now (buffer .entry)) at (field tag (big size x)) ⌝ }
+    ensures { λ _. ⌜ now (buffer .exit) ≡ sets (now (buffer .entry)) at (tagged tag (size ∷ []) (x ∷ [])) ⌝ }
 {
     put_head(buffer, at, tag, size as u64);
     put_number(buffer, at + 3, size, x);
@@ -38,7 +39,7 @@ pub(crate) fn put_clocks(
     destination: DestinationClock,
 )
     requires { ⌜ at + 8 ≤ length (now buffer) ⌝ }
-    ensures { λ _. ⌜ now (buffer .exit) ≡ sets (now (buffer .entry)) at (clocks source destination) ⌝ }
+    ensures { λ _. ⌜ now (buffer .exit) ≡ sets (now (buffer .entry)) at (big 4 (source .0) ++ big 4 (destination .0)) ⌝ }
 {
     put_number(buffer, at, 4, source.0 as u64);
     put_number(buffer, at + 4, 4, destination.0 as u64);
@@ -53,7 +54,7 @@ pub(crate) fn put_clocks_field(
     destination: DestinationClock,
 )
     requires { ⌜ at + 11 ≤ length (now buffer) ⌝ }
-    ensures { λ _. ⌜ now (buffer .exit) ≡ sets (now (buffer .entry)) at (field tag (clocks source destination)) ⌝ }
+    ensures { λ _. ⌜ now (buffer .exit) ≡ sets (now (buffer .entry)) at (tagged tag (4 ∷ 4 ∷ []) (source .0 ∷ destination .0 ∷ [])) ⌝ }
 {
     put_head(buffer, at, tag, 8);
     put_clocks(buffer, at + 3, source, destination);
@@ -69,7 +70,7 @@ pub(crate) fn put_held(
     quantity: u64,
 )
     requires { ⌜ at + 19 ≤ length (now buffer) ⌝ }
-    ensures { λ _. ⌜ now (buffer .exit) ≡ sets (now (buffer .entry)) at (field tag (held source destination quantity)) ⌝ }
+    ensures { λ _. ⌜ now (buffer .exit) ≡ sets (now (buffer .entry)) at (tagged tag (4 ∷ 4 ∷ 8 ∷ []) (source .0 ∷ destination .0 ∷ quantity ∷ [])) ⌝ }
 {
     put_head(buffer, at, tag, 16);
     put_clocks(buffer, at + 3, source, destination);
@@ -78,8 +79,8 @@ pub(crate) fn put_held(
 
 // Field 5, or nothing where there is no slot.
 pub(crate) fn put_slot(buffer: &mut [u8], at: usize, slot: HeldSlot)
-    requires { ⌜ at + length (slotField slot) ≤ length (now buffer) ⌝ }
-    ensures { λ _. ⌜ now (buffer .exit) ≡ sets (now (buffer .entry)) at (slotField slot) ⌝ }
+    requires { ⌜ at + length (slotBytes slot) ≤ length (now buffer) ⌝ }
+    ensures { λ _. ⌜ now (buffer .exit) ≡ sets (now (buffer .entry)) at (slotBytes slot) ⌝ }
 {
     let HeldSlot::OneSlot(one) = slot else {
         return;
@@ -89,8 +90,8 @@ pub(crate) fn put_slot(buffer: &mut [u8], at: usize, slot: HeldSlot)
 
 // Field 6, or nothing where there is no token.
 pub(crate) fn put_token(buffer: &mut [u8], at: usize, token: HeldToken)
-    requires { ⌜ at + length (tokenField token) ≤ length (now buffer) ⌝ }
-    ensures { λ _. ⌜ now (buffer .exit) ≡ sets (now (buffer .entry)) at (tokenField token) ⌝ }
+    requires { ⌜ at + length (tokenBytes token) ≤ length (now buffer) ⌝ }
+    ensures { λ _. ⌜ now (buffer .exit) ≡ sets (now (buffer .entry)) at (tokenBytes token) ⌝ }
 {
     let HeldToken::OneToken(one) = token else {
         return;

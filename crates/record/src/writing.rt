@@ -3,8 +3,8 @@ ghost use mathlib.Core.Path.{_≡_};
 ghost use Prim.Native.Nat.{_+_, _≤_};
 ghost use lib.ListN.{length};
 ghost use lib.Seq.{sets};
-ghost use Rattle.record.specs.Layout.{front, bytesOf, slotField, tokenField};
-ghost use Rattle.record.specs.Writing.{WritesGiven};
+ghost use Rattle.record.specs.Dateless.{recordOf};
+ghost use Rattle.record.specs.Writing.{front, slotBytes, tokenBytes, WritesGiven};
 use crate::putting::put_clocks_field;
 use crate::putting::put_field;
 use crate::putting::put_slot;
@@ -24,7 +24,7 @@ pub struct Written {
 }
 
 fn slot_size(slot: HeldSlot) -> usize
-    ensures { λ r. ⌜ (r ≡ length (slotField slot)) × (r ≤ 19) ⌝ }
+    ensures { λ r. ⌜ (r ≡ length (slotBytes slot)) × (r ≤ 19) ⌝ }
 {
     let HeldSlot::OneSlot(_) = slot else {
         return 0;
@@ -33,7 +33,7 @@ fn slot_size(slot: HeldSlot) -> usize
 }
 
 fn token_size(token: HeldToken) -> usize
-    ensures { λ r. ⌜ (r ≡ length (tokenField token)) × (r ≤ 19) ⌝ }
+    ensures { λ r. ⌜ (r ≡ length (tokenBytes token)) × (r ≤ 19) ⌝ }
 {
     let HeldToken::OneToken(_) = token else {
         return 0;
@@ -43,7 +43,7 @@ fn token_size(token: HeldToken) -> usize
 
 // The front is 30 bytes.
 fn record_size(m: Message) -> usize
-    ensures { λ r. ⌜ r ≡ length (bytesOf m) ⌝ }
+    ensures { λ r. ⌜ r ≡ length (recordOf m) ⌝ }
 {
     let slot = m.slot;
     let token = m.token;
@@ -63,8 +63,8 @@ fn put_front(buffer: &mut [u8], m: Message)
 
 // A message's record put at the buffer's start.
 fn put_record(buffer: &mut [u8], m: Message)
-    requires { ⌜ length (bytesOf m) ≤ length (now buffer) ⌝ }
-    ensures { λ _. ⌜ now (buffer .exit) ≡ sets (now (buffer .entry)) 0 (bytesOf m) ⌝ }
+    requires { ⌜ length (recordOf m) ≤ length (now buffer) ⌝ }
+    ensures { λ _. ⌜ now (buffer .exit) ≡ sets (now (buffer .entry)) 0 (recordOf m) ⌝ }
 {
     let slot = m.slot;
     let token = m.token;

@@ -14,7 +14,7 @@ use rules::limits::MOST_STATIONS;
 use rules::limits::MOST_VALUE;
 use rules::message::Message;
 
-pub(crate) fn slot_is_sound(held: HeldSlot, clock: DestinationClock) -> bool
+pub fn slot_is_sound(held: HeldSlot, clock: DestinationClock) -> bool
     ensures { λ r. ⌜ r ≡ slotSound held clock ⌝ }
 {
     let HeldSlot::OneSlot(slot) = held else {
@@ -26,7 +26,7 @@ pub(crate) fn slot_is_sound(held: HeldSlot, clock: DestinationClock) -> bool
     (1 <= slot.quantity) & (slot.quantity <= MOST_VALUE) & clocks
 }
 
-pub(crate) fn token_is_sound(held: HeldToken, clock: SourceClock) -> bool
+pub fn token_is_sound(held: HeldToken, clock: SourceClock) -> bool
     ensures { λ r. ⌜ r ≡ tokenSound held clock ⌝ }
 {
     let HeldToken::OneToken(token) = held else {

@@ -1,71 +1,48 @@
-use Prim.Native.Nat.{_+_, _≤_, _<_, _-_, _^_}
-use mathlib.Core.Path.{_≡_, sym}
+use Prim.Native.Nat.{_+_}
+use mathlib.Core.Path.{_≡_, sym, _∙_}
 use native.Mathlib.Omega.{arith}
 use borrow.Author.Needs.{needs}
-use Rattle.record.specs.Numbers.{numberAt}
-use Rattle.record.proofs.Bytes.{read-none, read-more, room, grown}
+use Rattle.record.proofs.Bytes.{in-parts}
 use Rattle.record.proofs.numbers.number_at.Statement.{statement}
 use Rattle.record.proofs.numbers.number_at.Tie as tie
 
-abbrev Inv-loop : tie.InvT-loop
-Inv-loop bytes at size x₀ k₀ x k = (k ≤ size) × (x ≡ numberAt bytes at k) × (x < 256 ^ k)
+bytes-at-requires : tie.Need-bytes-at-requires
+bytes-at-requires c κs = search needs
 
-abbrev μ-loop : tie.MeasureT-loop
-μ-loop bytes at size x₀ k₀ x k = size - k
+mul-result : tie.Need-mul-result
+mul-result c = search needs
 
-loop-holds : tie.Need-loop-holds Inv-loop μ-loop
-loop-holds c = (search needs, sym (read-none _ _), search needs)
+add-bytes-at : tie.Need-add-bytes-at
+add-bytes-at c = search needs
 
-mul-x : tie.Need-mul-x Inv-loop μ-loop
-mul-x c = let at = c .before .loop in omega (arith, room (at .k) (at .x) (omega arith) (at .inv .2))
+bytes-at-requires-2 : tie.Need-bytes-at-requires-2
+bytes-at-requires-2 c κs = search needs
 
-add-x : tie.Need-add-x Inv-loop μ-loop
-add-x c = search needs
+add-result : tie.Need-add-result
+add-result c = search needs
 
-shared-slice-read-x : tie.Need-shared-slice-read-x Inv-loop μ-loop
-shared-slice-read-x c = search needs
-
-cast-x : tie.Need-cast-x Inv-loop μ-loop
-cast-x c = omega (arith, c .shared-slice-known .given (c .before .before .before .args .at + c .before .before .loop .k))
-
-add-x-2 : tie.Need-add-x-2 Inv-loop μ-loop
-add-x-2 c =
-    let at = c .before .before .loop in
-    omega (arith, room (at .k) (at .x) (omega arith) (at .inv .2), c .shared-slice-known .given (c .before .before .before .args .at + at .k))
-
-add-k : tie.Need-add-k Inv-loop μ-loop
-add-k c = search needs
-
-loop-less : tie.Need-loop-less Inv-loop μ-loop
-loop-less c = search needs
-
-loop-again : tie.Need-loop-again Inv-loop μ-loop
-loop-again c =
-    let at = c .before .before .loop in (
-      omega arith,
-      rw (at .inv .1) (sym (read-more _ _ (at .k))),
-      grown (at .k) (at .x) _ (at .inv .2) (c .shared-slice-known .given (c .before .before .before .args .at + at .k) .fits),
-    )
-
-returns : tie.Need-returns Inv-loop μ-loop
+returns : tie.Need-returns
 returns c =
-    let at = c .before .loop in
-    let e : at .k ≡ c .before .before .args .size = omega arith in
-    rw (← e) (at .inv .1, at .inv .2)
+    let a = c .before .before .before .before .args in
+    let high = c .before .bytes-at .ensures in
+    let low = c .bytes-at2 .ensures in
+    rw (c .before .before .if1 .taken) (rw (high .0, low .0) (sym (in-parts (a .bytes .now) (a .at) 4 4)), omega arith)
+
+bytes-at-requires-3 : tie.Need-bytes-at-requires-3
+bytes-at-requires-3 c κs = search needs
+
+returns-2 : tie.Need-returns-2
+returns-2 c = search needs
 
 pub number-at-spec : {M : Type 1} → statement M
 number-at-spec =
     tie.close
     (tie.spec
-    Inv-loop
-    μ-loop
-    loop-holds
-    mul-x
-    add-x
-    shared-slice-read-x
-    cast-x
-    add-x-2
-    add-k
-    loop-less
-    loop-again
-    returns)
+    bytes-at-requires
+    mul-result
+    add-bytes-at
+    bytes-at-requires-2
+    add-result
+    returns
+    bytes-at-requires-3
+    returns-2)

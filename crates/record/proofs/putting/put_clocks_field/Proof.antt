@@ -1,9 +1,8 @@
 use Prim.Native.Nat.{_+_}
-use mathlib.Core.List.{_++_}
+use mathlib.Core.List.{_++_, append-nil}
 use lib.ListN.{length-append}
 use borrow.Author.Needs.{needs}
 use Rattle.record.specs.Numbers.{big}
-use Rattle.record.specs.Layout.{clocks}
 use Rattle.rules.proofs.Stores.{then}
 use Rattle.record.proofs.Digits.{length-big}
 use Rattle.record.proofs.putting.put_clocks_field.Statement.{statement}
@@ -26,8 +25,8 @@ returns c =
     let last = c .before .before in
     let first = last .before .before .before .before in
     let a = first .before .before .before .args in
-    simp (length-append, length-big)
-    (then (a .buffer .now) (a .at) (a .at + 3) (big 1 (a .tag) ++ big 2 8) (clocks (a .source) (a .destination)) _ _ (first .put-head .ensures) (last .put-clocks .ensures)
+    rw (append-nil (big 4 (a .destination .0)))
+    (then (a .buffer .now) (a .at) (a .at + 3) (big 1 (a .tag) ++ big 2 8) (big 4 (a .source .0) ++ big 4 (a .destination .0)) _ _ (first .put-head .ensures) (last .put-clocks .ensures)
     (simp (length-append, length-big)))
 
 pub put-clocks-field-spec : {M : Type 1} → statement M

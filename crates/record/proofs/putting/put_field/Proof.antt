@@ -1,5 +1,6 @@
 use Prim.Native.Nat.{_+_}
-use mathlib.Core.List.{_++_}
+use mathlib.Core.List.{_++_, append-nil}
+use native.Mathlib.Nat.{add-zero}
 use lib.ListN.{length-append}
 use borrow.Author.Needs.{needs}
 use Rattle.record.specs.Numbers.{big}
@@ -25,7 +26,7 @@ returns c =
     let last = c .before .before in
     let first = last .before .before .before .before in
     let a = first .before .before .before .args in
-    rw (length-big (a .size) (a .x))
+    rw (append-nil (big (a .size) (a .x)), add-zero (a .size))
     (then (a .buffer .now) (a .at) (a .at + 3) (big 1 (a .tag) ++ big 2 (a .size)) (big (a .size) (a .x)) _ _ (first .put-head .ensures) (last .put-number .ensures)
     (simp (length-append, length-big)))
 

@@ -1,10 +1,9 @@
 use Prim.Native.Nat.{_+_}
-use mathlib.Core.List.{_++_}
+use mathlib.Core.List.{_++_, append-nil, append-assoc}
 use native.Mathlib.Omega.{arith}
 use lib.ListN.{length-append}
 use borrow.Author.Needs.{needs}
 use Rattle.record.specs.Numbers.{big}
-use Rattle.record.specs.Layout.{clocks, held}
 use Rattle.rules.proofs.Stores.{then}
 use Rattle.record.proofs.Digits.{length-big}
 use Rattle.record.proofs.putting.put_held.Statement.{statement}
@@ -34,9 +33,9 @@ returns c =
     let second = last .before .before .before .before in
     let first = second .before .before .before .before in
     let a = first .before .before .before .args in
-    let body = then _ (a .at + 3) (a .at + 11) (clocks (a .source) (a .destination)) (big 8 (a .quantity)) _ _ (second .put-clocks .ensures) (last .put-number .ensures) (simp (length-append, length-big) (omega arith)) in
-    simp (length-append, length-big)
-    (then (a .buffer .now) (a .at) (a .at + 3) (big 1 (a .tag) ++ big 2 16) (held (a .source) (a .destination) (a .quantity)) _ _ (first .put-head .ensures) body
+    let body = then _ (a .at + 3) (a .at + 11) (big 4 (a .source .0) ++ big 4 (a .destination .0)) (big 8 (a .quantity)) _ _ (second .put-clocks .ensures) (last .put-number .ensures) (simp (length-append, length-big) (omega arith)) in
+    rw (append-nil (big 8 (a .quantity)), ← append-assoc (big 4 (a .source .0)) (big 4 (a .destination .0)) (big 8 (a .quantity)))
+    (then (a .buffer .now) (a .at) (a .at + 3) (big 1 (a .tag) ++ big 2 16) ((big 4 (a .source .0) ++ big 4 (a .destination .0)) ++ big 8 (a .quantity)) _ _ (first .put-head .ensures) body
     (simp (length-append, length-big)))
 
 pub put-held-spec : {M : Type 1} → statement M

@@ -3,10 +3,10 @@ use mathlib.Core.List.{_++_}
 use native.Mathlib.Omega.{arith}
 use lib.ListN.{length-append}
 use borrow.Author.Needs.{needs}
-use Rattle.record.specs.Layout.{slotField, tokenField, front, bytesOf}
+use Rattle.record.specs.Writing.{front, slotBytes, tokenBytes}
 use Rattle.rules.proofs.Stores.{then}
 use Rattle.record.proofs.Digits.{length-big}
-use Rattle.record.proofs.Lengths.{length-record}
+use Rattle.record.proofs.Lengths.{parts, length-record}
 use Rattle.record.proofs.writing.put_record.Statement.{statement}
 use Rattle.record.proofs.writing.put_record.Tie as tie
 
@@ -29,13 +29,13 @@ same-length : tie.Need-same-length
 same-length c = search needs
 
 returns : tie.Need-returns
-unfolding bytesOf
 returns c =
     let slot = c .before .before .before .before .before .before .before in
     let a = slot .before .before .before .before .before .before .before .args in
-    let e = then (a .buffer .now) 0 30 (front (a .m)) (slotField (a .m .slot)) _ _ (slot .before .before .before .before .put-front .ensures) (slot .put-slot .ensures) (simp (length-append, length-big)) in
-    then (a .buffer .now) 0 (30 + c .before .before .before .slot-size .result) (front (a .m) ++ slotField (a .m .slot)) (tokenField (a .m .token)) _ _ e (c .before .before .put-token .ensures)
-    (simp (length-append, length-big) (omega arith))
+    let e = then (a .buffer .now) 0 30 (front (a .m)) (slotBytes (a .m .slot)) _ _ (slot .before .before .before .before .put-front .ensures) (slot .put-slot .ensures) (simp (length-append, length-big)) in
+    rw (parts (a .m))
+    (then (a .buffer .now) 0 (30 + c .before .before .before .slot-size .result) (front (a .m) ++ slotBytes (a .m .slot)) (tokenBytes (a .m .token)) _ _ e (c .before .before .put-token .ensures)
+    (simp (length-append, length-big) (omega arith)))
 
 pub put-record-spec : {M : Type 1} → statement M
 put-record-spec =

@@ -4,7 +4,7 @@ use native.Mathlib.Omega.{arith}
 use lib.ListN.{length}
 use borrow.Author.Tests.{not-true, not-false, lt-ltb, le-ltb}
 use borrow.Author.Needs.{needs}
-use Rattle.record.specs.Layout.{bytesOf}
+use Rattle.record.specs.Dateless.{recordOf}
 use Rattle.rules.proofs.Stores.{in-front}
 use Rattle.record.proofs.writing.write.Statement.{statement}
 use Rattle.record.proofs.writing.write.Tie as tie
@@ -30,12 +30,12 @@ same-length c = search needs
 returns-3 : tie.Need-returns-3
 returns-3 c =
     let a = c .before .before .before .before .before .before .before .before .before .args in
-    let fits : length (bytesOf (a .m)) ≤ length (a .buffer .now) = omega arith in
+    let fits : length (recordOf (a .m)) ≤ length (a .buffer .now) = omega arith in
     rw (
       sym (c .before .before .before .before .before .before .before .message-is-sound .ensures) ∙ not-false _ (c .before .before .before .before .before .before .if1 .left),
       le-ltb _ _ fits,
     )
-    (record { told = rw (c .before .before .before .before .before .record-size .ensures); buffer = c .before .before .put-record .ensures ∙ in-front (a .buffer .now) (bytesOf (a .m)) fits })
+    (record { told = rw (c .before .before .before .before .before .record-size .ensures); buffer = c .before .before .put-record .ensures ∙ in-front (a .buffer .now) (recordOf (a .m)) fits })
 
 pub write-spec : {M : Type 1} → statement M
 write-spec =
