@@ -2,9 +2,9 @@
 //! prints a table of ratios.
 
 mod inputs;
-mod proved;
 
 use inputs::{records, script, stations, steps, Random};
+use quynhabet_archive::{self as proved, measure};
 use speed::{record, table};
 use std::hint::black_box;
 use std::io::Write;
@@ -26,6 +26,12 @@ fn timed(turns: usize, n: usize, mut first: impl FnMut(), mut second: impl FnMut
     (least.0 / n as f64, least.1 / n as f64)
 }
 
+/// What the proved code told, as the code by hand tells it.
+fn told(told: proved::Told) -> record::Told {
+    let proved::Told { answer, result, rules, opened, made } = told;
+    record::Told { answer, result, rules, opened, made }
+}
+
 fn print_row(name: &str, times: (f64, f64)) {
     println!("| {name} | {:.0} | {:.0} | {:.2} |", times.0, times.1, times.0 / times.1);
 }
@@ -35,9 +41,15 @@ fn time_records(turns: usize, random: &mut Random) {
     let mut out = [0u8; 80];
     for (bytes, message) in &all {
         let mut read = [[0u64; 13]; 2];
-        assert_eq!(proved::read(bytes, &mut read[0]), record::read(bytes, &mut read[1]));
+        assert_eq!(
+            told(proved::record_read(bytes, &mut read[0])),
+            record::read(bytes, &mut read[1])
+        );
         assert_eq!((read[0], read[1]), (*message, *message));
-        assert_eq!(proved::write(message, &mut out), record::write(message, &mut [0u8; 80]));
+        assert_eq!(
+            told(proved::record_write(message, &mut out)),
+            record::write(message, &mut [0u8; 80])
+        );
         assert_eq!(&out[..bytes.len()], &bytes[..]);
     }
     let mut message = [0u64; 13];
@@ -47,7 +59,7 @@ fn time_records(turns: usize, random: &mut Random) {
         all.len(),
         || {
             all.iter().for_each(|(bytes, _)| {
-                black_box(proved::read(black_box(bytes), &mut message));
+                black_box(proved::record_read(black_box(bytes), &mut message));
             })
         },
         || {
@@ -63,7 +75,7 @@ fn time_records(turns: usize, random: &mut Random) {
         all.len(),
         || {
             all.iter().for_each(|(_, m)| {
-                black_box(proved::write(black_box(m), &mut out));
+                black_box(proved::record_write(black_box(m), &mut out));
             })
         },
         || {
@@ -79,7 +91,10 @@ fn time_receiving(turns: usize, random: &mut Random) {
     let all = stations(random, 512);
     for (station, bytes) in &all {
         let mut both = [*station, *station];
-        assert_eq!(proved::receive(&mut both[0], bytes), record::receive(&mut both[1], bytes));
+        assert_eq!(
+            told(proved::station_receive(&mut both[0], bytes)),
+            record::receive(&mut both[1], bytes)
+        );
         assert_eq!(both[0], both[1]);
     }
     let mut first: Vec<_> = all.clone();
@@ -89,7 +104,7 @@ fn time_receiving(turns: usize, random: &mut Random) {
         all.len(),
         || {
             first.iter_mut().for_each(|(s, bytes)| {
-                black_box(proved::receive(s, black_box(bytes)));
+                black_box(proved::station_receive(s, black_box(bytes)));
             })
         },
         || {
@@ -116,14 +131,14 @@ fn time_steps(turns: usize, random: &mut Random) {
 fn time_run(turns: usize, count: u64, codes: &[u64], name: &str) {
     let room = codes.len() / 3 * 5;
     let mut told = [vec![0u64; room], vec![0u64; room]];
-    let done = [proved::run(count, codes, &mut told[0]), table::run(count, codes, &mut told[1])];
+    let done = [measure::run(count, codes, &mut told[0]), table::run(count, codes, &mut told[1])];
     assert_eq!((done[0], &told[0]), (done[1], &told[1]));
     let [first, second] = &mut told;
     let times = timed(
         turns,
         codes.len() / 3,
         || {
-            black_box(proved::run(count, black_box(codes), first));
+            black_box(measure::run(count, black_box(codes), first));
         },
         || {
             black_box(table::run(count, black_box(codes), second));
@@ -133,12 +148,12 @@ fn time_run(turns: usize, count: u64, codes: &[u64], name: &str) {
 }
 
 fn time_by_value(turns: usize, count: u64, codes: &[u64]) {
-    assert_eq!(proved::last_result(count, codes), table::last_result(count, codes));
+    assert_eq!(measure::last_result(count, codes), table::last_result(count, codes));
     let times = timed(
         turns,
         codes.len() / 3,
         || {
-            black_box(proved::last_result(count, black_box(codes)));
+            black_box(measure::last_result(count, black_box(codes)));
         },
         || {
             black_box(table::last_result(count, black_box(codes)));

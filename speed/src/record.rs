@@ -7,7 +7,6 @@ const LAST_CLOCK: u64 = u32::MAX as u64;
 
 /// What a call tells, as the proved functions tell it.
 #[derive(Clone, Copy, Debug, Default, PartialEq, Eq)]
-#[repr(C)]
 pub struct Told {
     /// The numbered answer.
     pub answer: u64,
