@@ -55,8 +55,8 @@ mod message;
 mod record;
 mod refusal;
 mod report;
-mod save;
 mod station;
+mod station_save;
 #[cfg(test)]
 mod tests;
 
@@ -68,5 +68,5 @@ pub use quynhabet_archive::layout::{LAYOUT_VERSION, MESSAGE_NUMBERS, RECORD_MAX,
 pub use record::Record;
 pub use refusal::Refusal;
 pub use report::{Report, Rule};
-pub use save::{LoadFault, SAVE_BYTES};
 pub use station::Station;
+pub use station_save::{LoadFault, SAVE_BYTES};

@@ -56,7 +56,7 @@ fn take(s: &mut [u64; 134], m: &[u64; 13]) -> Result<[u64; 4], u8> {
         slot: &mut slot,
         token: &mut token,
     };
-    let told = side.take(&shown(m))?;
+    let told = side.take(&message(m))?;
     if told[1] != 0 {
         (s[2], s[4], s[5]) = (value, u64::from(source), u64::from(destination));
         put(&mut s[slot_at..], slot);
@@ -65,7 +65,8 @@ fn take(s: &mut [u64; 134], m: &[u64; 13]) -> Result<[u64; 4], u8> {
     Ok(told)
 }
 
-fn shown(m: &[u64; 13]) -> Message {
+/// The message of these numbers, which are sound.
+fn message(m: &[u64; 13]) -> Message {
     Message {
         from: m[0] as usize,
         to: m[1] as usize,

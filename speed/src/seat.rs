@@ -1,4 +1,4 @@
-//! A station at a table, and the message that it shows another.
+//! A station at a table, and when it and a message that waits there are sound.
 
 use crate::limits::{MOST_AMOUNT, MOST_VALUE};
 use crate::rules::{Held, Message, Side};
