@@ -1,4 +1,5 @@
-//! The functions of the proved archive, safe to call. All unsafe code of the repository is here.
+//! The functions of the proved archive, safe to call. All unsafe code of the repository is in this
+//! package.
 //!
 //! The declarations repeat `include/quynhabet.h`. Nothing else checks them against the archive.
 //!

@@ -62,7 +62,8 @@ impl Counts {
     pub fn told(&self) -> String {
         format!(
             "deliveries {}, fills {}, slots dropped {}, opened {}, reopened {}, tokens dropped {}, \
-             made {}, of 0 {}, stale {}, refused {}, pool full {}, too few to draw {}, unreadable {}",
+             made {}, of 0 {}, stale {}, refused {}, pool full {}, too few to draw {}, \
+             unreadable {}",
             self.deliveries,
             self.fills,
             self.slots_dropped,

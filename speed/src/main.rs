@@ -25,5 +25,8 @@ fn main() {
     calls::time_receiving(turns, &mut random);
     runs::time_steps(turns, &mut random);
     programs::time_scripts(turns, &mut random, bench, by_hand);
-    println!("\nThe least of {turns} turn(s) each, both in one run on the same input. Buffers were written to before and not cleared between calls.");
+    println!(
+        "\nThe least of {turns} turn(s) each, both in one run on the same input. Buffers were \
+         written to before and not cleared between calls."
+    );
 }

@@ -64,7 +64,10 @@ fn first_part() {
 
 /// The rule that the last two parts break.
 fn tell_the_rule() {
-    println!("\nThe rule for saving: the state is saved before any record or drawn pass leaves the station,");
+    println!(
+        "\nThe rule for saving: the state is saved before any record or drawn pass leaves the \
+         station,"
+    );
     println!("and an older save is never loaded again. Otherwise nothing of this is claimed.");
 }
 
