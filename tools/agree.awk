@@ -11,7 +11,7 @@ BEGIN {
     homes("header", "include/quynhabet.h", "answer limit rule place size version")
     homes("Rust", "rust/src/refusal.rs", "answer")
     homes("Rust", "rust/src/limits.rs", "limit")
-    homes("Rust", "rust/src/layout.rs", "place size version")
+    homes("Rust", "archive/src/layout.rs", "place size version")
     homes("Rust", "rust/src/report.rs", "rule")
     homes("second", "second/src/answer.rs", "answer")
     homes("second", "second/src/limits.rs", "limit")
@@ -210,7 +210,7 @@ FILENAME ~ /\.h$/ && /#[ \t]*define/ {
     } else unread()
 }
 
-# ---- the Rust package
+# ---- the Rust package, and the layout that it takes from the package below it
 
 FILENAME ~ /rust\/src\/refusal\.rs$/ {
     if (/^pub\(crate\) const DONE/) reads_const("Rust")
@@ -238,19 +238,18 @@ function reads_arm(    name) {
     } else if (!/^ +(match self \{|Refusal::Other\(number\) => number,)$/) unread()
 }
 
-FILENAME ~ /rust\/src\/(limits|layout)\.rs$/ {
-    if (/^(pub|pub\(crate\)) const [A-Z_]+: /) reads_const("Rust")
-    else if (/^pub\(crate\) const fn station_[a-z]+\(peer: usize\) -> usize \{$/) begins_place()
+FILENAME ~ /(rust\/src\/limits|archive\/src\/layout)\.rs$/ {
+    if (/^pub const [A-Z_]+: /) reads_const("Rust")
+    else if (/^pub const fn station_[a-z]+\(peer: usize\) -> usize \{$/) begins_place()
     else if (into != "") reads_peer()
     else if (!/^(\/\/.*|\})?$/) unread()
 }
 
-# a save is the version and a station's numbers, so its size is no number of its own
 function reads_const(who,    name) {
     name = $3
     sub(/:/, "", name)
     if (/ [a-z0-9]+ = [0-9_]+;$/ && NF == 6) has(who, name, word(6))
-    else if ($0 != "pub const SAVE_BYTES: usize = 8 * (1 + STATION_NUMBERS);") unread()
+    else unread()
 }
 
 function begins_place() {

@@ -47,22 +47,26 @@
 //! does.
 
 #![deny(missing_docs)]
-#![deny(unsafe_code)]
+#![forbid(unsafe_code)]
 
-#[allow(unsafe_code)]
-mod ffi;
-mod layout;
+mod held;
 mod limits;
 mod message;
+mod record;
 mod refusal;
 mod report;
 mod station;
+mod station_save;
 #[cfg(test)]
 mod tests;
 
-pub use layout::{LAYOUT_VERSION, MESSAGE_NUMBERS, RECORD_MAX, SAVE_BYTES, STATION_NUMBERS};
+pub use held::{DestinationClock, Slot, SourceClock, Token};
 pub use limits::{LAST_CLOCK, LEAST_STATIONS, MOST_AMOUNT, MOST_INTAKE, MOST_STATIONS, MOST_VALUE};
-pub use message::{DestinationClock, Message, Record, Slot, SourceClock, Token};
+pub use message::Message;
+#[doc(inline)]
+pub use quynhabet_archive::layout::{LAYOUT_VERSION, MESSAGE_NUMBERS, RECORD_MAX, STATION_NUMBERS};
+pub use record::Record;
 pub use refusal::Refusal;
 pub use report::{Report, Rule};
-pub use station::{LoadFault, Station};
+pub use station::Station;
+pub use station_save::{LoadFault, SAVE_BYTES};

@@ -3,6 +3,8 @@
 use std::error::Error;
 use std::fmt;
 
+use quynhabet_archive::Told;
+
 /// The answer that is no refusal.
 pub(crate) const DONE: u64 = 0;
 
@@ -139,3 +141,11 @@ impl fmt::Display for Refusal {
 }
 
 impl Error for Refusal {}
+
+/// What was told, or the refusal.
+pub(crate) fn done(told: Told) -> Result<Told, Refusal> {
+    match Refusal::from_number(told.answer) {
+        None => Ok(told),
+        Some(refusal) => Err(refusal),
+    }
+}

@@ -1,6 +1,6 @@
 //! What receiving a record did.
 
-use crate::ffi::Told;
+use quynhabet_archive::Told;
 
 /// One of the five rules of receiving.
 #[derive(Clone, Copy, Debug, PartialEq, Eq, Hash)]

@@ -1,12 +1,15 @@
 //! One station.
 
-use std::error::Error;
 use std::fmt;
 
-use crate::ffi::{self, StationNumbers};
-use crate::layout::*;
-use crate::message::{clock, slot_at, token_at};
-use crate::{DestinationClock, Record, Refusal, Report, Slot, SourceClock, Token, MOST_STATIONS};
+use quynhabet_archive::layout::*;
+use quynhabet_archive::{self as archive, StationNumbers};
+
+use crate::held::{clock, slot_at, token_at, DestinationClock, Slot, SourceClock, Token};
+use crate::limits::MOST_STATIONS;
+use crate::record::Record;
+use crate::refusal::{done, Refusal};
+use crate::report::Report;
 
 /// A station. It is always sound.
 ///
@@ -30,7 +33,7 @@ impl Station {
     /// ```
     pub fn fresh(number: u64, count: u64) -> Result<Station, Refusal> {
         let mut numbers = [0; STATION_NUMBERS];
-        ffi::station_fresh(number, count, &mut numbers).done()?;
+        done(archive::station_fresh(number, count, &mut numbers))?;
         Ok(Station { numbers })
     }
 
@@ -43,7 +46,7 @@ impl Station {
     /// # Ok::<(), quynhabet::Refusal>(())
     /// ```
     pub fn add(&mut self, amount: u64) -> Result<u64, Refusal> {
-        Ok(ffi::station_add(&mut self.numbers, amount).done()?.result)
+        Ok(done(archive::station_add(&mut self.numbers, amount))?.result)
     }
 
     /// Draws passes, all that are asked or none. Refusals: 4, 15.
@@ -63,7 +66,7 @@ impl Station {
     /// # Ok::<(), Refusal>(())
     /// ```
     pub fn draw(&mut self, amount: u64) -> Result<(), Refusal> {
-        ffi::station_draw(&mut self.numbers, amount).done()?;
+        done(archive::station_draw(&mut self.numbers, amount))?;
         Ok(())
     }
 
@@ -79,7 +82,7 @@ impl Station {
     /// ```
     pub fn record_for(&self, to: u64) -> Result<Record, Refusal> {
         let mut bytes = [0; RECORD_MAX];
-        let told = ffi::station_write(&self.numbers, to, &mut bytes).done()?;
+        let told = done(archive::station_write(&self.numbers, to, &mut bytes))?;
         Ok(Record::new(bytes, told.result))
     }
 
@@ -97,7 +100,7 @@ impl Station {
     /// # Ok::<(), quynhabet::Refusal>(())
     /// ```
     pub fn receive(&mut self, record: &[u8]) -> Result<Report, Refusal> {
-        Ok(Report::from_told(ffi::station_receive(&mut self.numbers, record).done()?))
+        Ok(Report::from_told(done(archive::station_receive(&mut self.numbers, record))?))
     }
 
     /// The station's number.
@@ -169,49 +172,8 @@ impl Station {
 
     /// The station of these numbers. Refusal: [`Refusal::NotSound`].
     pub fn from_numbers(numbers: &[u64; STATION_NUMBERS]) -> Result<Station, Refusal> {
-        ffi::station_check(numbers).done()?;
+        done(archive::station_check(numbers))?;
         Ok(Station { numbers: *numbers })
-    }
-
-    /// The station as bytes, for saving: the layout's version, then the numbers, high byte first.
-    ///
-    /// Save before any record or drawn pass leaves the station.
-    ///
-    /// ```
-    /// # use quynhabet::Station;
-    /// # let mut station = Station::fresh(0, 2).unwrap();
-    /// station.add(10).unwrap();
-    /// let save = station.to_bytes();
-    /// drop(station); // a power cut
-    /// let station = Station::from_bytes(&save).unwrap();
-    /// assert_eq!(station.value(), 10);
-    /// ```
-    pub fn to_bytes(&self) -> [u8; SAVE_BYTES] {
-        let mut bytes = [0; SAVE_BYTES];
-        let numbers = std::iter::once(&LAYOUT_VERSION).chain(&self.numbers);
-        for (place, number) in bytes.chunks_exact_mut(8).zip(numbers) {
-            place.copy_from_slice(&number.to_be_bytes());
-        }
-        bytes
-    }
-
-    /// The station of a save. Load only the newest save of a station.
-    ///
-    /// A save has no check sum. Storage hands it back as it was, or not at all.
-    pub fn from_bytes(save: &[u8]) -> Result<Station, LoadFault> {
-        let (version, rest) = save.split_first_chunk::<8>().ok_or(LoadFault::Length(save.len()))?;
-        let version = u64::from_be_bytes(*version);
-        if version != LAYOUT_VERSION {
-            return Err(LoadFault::Version(version));
-        }
-        if save.len() != SAVE_BYTES {
-            return Err(LoadFault::Length(save.len()));
-        }
-        let mut numbers = [0; STATION_NUMBERS];
-        for (number, bytes) in numbers.iter_mut().zip(rest.chunks_exact(8)) {
-            *number = bytes.iter().fold(0, |high, byte| high << 8 | u64::from(*byte));
-        }
-        Station::from_numbers(&numbers).map_err(LoadFault::Refused)
     }
 }
 
@@ -235,30 +197,3 @@ impl fmt::Debug for Station {
             .finish()
     }
 }
-
-/// Why a save can't be loaded.
-#[derive(Clone, Copy, Debug, PartialEq, Eq)]
-pub enum LoadFault {
-    /// The save has this many bytes, and not [`SAVE_BYTES`].
-    Length(usize),
-    /// The save has this layout version, and not [`LAYOUT_VERSION`].
-    Version(u64),
-    /// The numbers of the save are refused.
-    Refused(Refusal),
-}
-
-impl fmt::Display for LoadFault {
-    fn fmt(&self, f: &mut fmt::Formatter<'_>) -> fmt::Result {
-        match self {
-            LoadFault::Length(bytes) => {
-                write!(f, "the save has {bytes} bytes, and not {SAVE_BYTES}")
-            }
-            LoadFault::Version(version) => {
-                write!(f, "the save has layout version {version}, and not {LAYOUT_VERSION}")
-            }
-            LoadFault::Refused(refusal) => refusal.fmt(f),
-        }
-    }
-}
-
-impl Error for LoadFault {}

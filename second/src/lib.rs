@@ -1,14 +1,16 @@
 //! A second implementation of stations that share passes by quantity
 //! transfer, written from the scope document alone and sharing no code with
-//! the first. It is here to be compared with the first: see [`compare`].
+//! the first. It is here to be compared with the first, and knows nothing of
+//! the comparison but that a fault may be planted.
+
+#![forbid(unsafe_code)]
 
 pub mod answer;
-pub mod compare;
 pub mod fault;
-pub mod flat;
 pub mod held;
 pub mod limits;
 pub mod message;
+mod receiving;
 pub mod record;
 pub mod rules;
 pub mod script;

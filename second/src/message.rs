@@ -1,8 +1,7 @@
 //! What a message shows, and when it is sound.
 
-use crate::held::{slot_is_sound, token_is_sound};
+use crate::held::{slot_is_sound, token_is_sound, Held};
 use crate::limits::{is_clock, is_value, MOST_NUMBER};
-use crate::Held;
 
 /// "A message shows: from, to, the sender's value and both its clocks, the
 /// sender's slot for the receiver if it has one, the sender's token for the

@@ -2,7 +2,9 @@
 //! length, high byte first, then the body, also high byte first. Ascending
 //! order, no repeats, nothing after."
 
-use crate::{Answer, Held, Message, Told};
+use crate::answer::{Answer, Told};
+use crate::held::Held;
+use crate::message::Message;
 
 /// The fields of a message as bytes. It need not be sound, but its numbers
 /// must fit their fields.

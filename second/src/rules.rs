@@ -1,8 +1,12 @@
 //! "The five rules of receiving. Station i takes message m from j. Each rule
 //! sees what the earlier ones left."
 
+use crate::answer::{Answer, Report, Told};
+use crate::fault::Fault;
+use crate::held::Held;
 use crate::limits::{is_value, LAST_CLOCK};
-use crate::{Answer, Fault, Held, Message, Report, Station, Told};
+use crate::message::Message;
+use crate::station::Station;
 
 /// A receiving under way: the later station and what is to be told.
 struct Taking<'a> {

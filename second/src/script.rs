@@ -2,8 +2,10 @@
 
 use std::fmt::Write;
 
+use crate::answer::{Answer, Told};
+use crate::fault::Fault;
 use crate::limits::{MOST_BYTES, MOST_DIGITS};
-use crate::{Answer, Fault, Table, Told};
+use crate::table::Table;
 
 /// One line after the first.
 #[derive(Clone, Copy, Debug, PartialEq, Eq)]

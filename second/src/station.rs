@@ -1,8 +1,12 @@
-//! One station: what it has, when it is sound, and its calls.
+//! One station: what it has, when it is sound, and its calls but for
+//! receiving, which goes by the rules and stands beside them.
 
-use crate::held::{slot_is_sound, token_is_sound};
+use crate::answer::{Answer, Told};
+use crate::fault::Fault;
+use crate::held::{slot_is_sound, token_is_sound, Held};
 use crate::limits::{is_amount, is_clock, is_count, is_value, MOST_INTAKE, PEERS};
-use crate::{record, rules, Answer, Fault, Held, Message, Told};
+use crate::message::Message;
+use crate::record;
 
 /// "A station has: its own number and the count of stations, its value, its
 /// intake, a source clock, a destination clock, and for every other station
@@ -134,41 +138,8 @@ impl Station {
         }
     }
 
-    /// Receiving a message by value: refusals 1, 9, 2, 11, 10.
-    pub fn receive_message(&mut self, message: &Message, fault: Fault) -> Told {
-        if let Err(answer) = self.may_receive(Some(message)) {
-            return Told::refused(answer);
-        }
-        rules::take(self, message, fault)
-    }
-
-    /// "receive bytes at a station 1, 9, 2, 11, 10".
-    pub fn receive(&mut self, bytes: &[u8], fault: Fault) -> Told {
-        let read = record::parse(bytes);
-        match (self.may_receive(read.as_ref()), read) {
-            (Ok(()), Some(message)) => rules::take(self, &message, fault),
-            (Ok(()), None) => Told::refused(Answer::NoRecord),
-            (Err(answer), _) => Told::refused(answer),
-        }
-    }
-
-    /// The refusals of receiving up to the rules: 1, 9, 2, 11.
-    fn may_receive(&self, message: Option<&Message>) -> Result<(), Answer> {
-        self.lent_sound()?;
-        let Some(message) = message.filter(|m| m.is_sound()) else {
-            return Err(Answer::NoRecord);
-        };
-        if message.from >= self.count || message.to >= self.count {
-            return Err(Answer::NotBelowCount);
-        }
-        if message.to != self.number {
-            return Err(Answer::ForAnother);
-        }
-        Ok(())
-    }
-
     /// Answer 1: the "station lent is not sound".
-    fn lent_sound(&self) -> Result<(), Answer> {
+    pub(crate) fn lent_sound(&self) -> Result<(), Answer> {
         if self.is_sound() {
             Ok(())
         } else {

@@ -1,7 +1,11 @@
 //! A whole table of stations with the messages waiting between them.
 
+use crate::answer::{Answer, Told};
+use crate::fault::Fault;
 use crate::limits::{is_count, MOST_PLACES, PEERS};
-use crate::{rules, Answer, Fault, Message, Station, Told};
+use crate::message::Message;
+use crate::rules;
+use crate::station::Station;
 
 /// The count, the stations (those past the count are no part of the table)
 /// and the pool: "64 places, each empty or holding one message".

@@ -1,7 +1,9 @@
 //! Inputs from a seed, the same for both.
 
-use speed::record::{message_sound, station_sound, write};
 use std::fmt::Write;
+
+use speed::numbers::sound;
+use speed::record::{message_sound, write};
 
 /// A small generator of numbers.
 pub struct Random(pub u64);
@@ -63,31 +65,28 @@ pub fn stations(random: &mut Random, n: usize) -> Vec<([u64; 134], Vec<u8>)> {
     for _ in 0..n {
         let (number, peer) = (random.below(16), random.below(15));
         let peer = if peer >= number { peer + 1 } else { peer };
-        let mut s = [0u64; 134];
-        s[..6].copy_from_slice(&[number, 16, random.below(1000), 1000, 2000, 2000]);
-        for k in (0..16).filter(|k| *k as u64 != number) {
-            if random.below(2) == 0 {
-                s[6 + 4 * k..10 + 4 * k].copy_from_slice(&[
-                    1,
-                    random.below(1000),
-                    random.below(1000),
-                    1 + random.below(100),
-                ]);
-            }
-            if random.below(2) == 0 {
-                s[70 + 4 * k..74 + 4 * k].copy_from_slice(&[
-                    1,
-                    random.below(1000),
-                    random.below(1000),
-                    random.below(100),
-                ]);
-            }
-        }
-        assert!(station_sound(&s));
+        let s = station(random, number);
         let m = message(random, peer, number);
         all.push((s, bytes_of(&m)));
     }
     all
+}
+
+fn station(random: &mut Random, number: u64) -> [u64; 134] {
+    let mut s = [0u64; 134];
+    s[..6].copy_from_slice(&[number, 16, random.below(1000), 1000, 2000, 2000]);
+    for k in (0..16).filter(|k| *k as u64 != number) {
+        if random.below(2) == 0 {
+            let slot = [1, random.below(1000), random.below(1000), 1 + random.below(100)];
+            s[6 + 4 * k..10 + 4 * k].copy_from_slice(&slot);
+        }
+        if random.below(2) == 0 {
+            let token = [1, random.below(1000), random.below(1000), random.below(100)];
+            s[70 + 4 * k..74 + 4 * k].copy_from_slice(&token);
+        }
+    }
+    assert!(sound(&s));
+    s
 }
 
 /// Steps in a mix: mostly sends and deliveries, also late and repeated ones, adds, draws and

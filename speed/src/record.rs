@@ -1,13 +1,9 @@
-//! Records and one station's receiving, written by hand on the numbers themselves: what the proved
-//! functions are timed against.
+//! Records read and written by hand, from and to the numbers themselves.
 
-/// The most that a value or a quantity may be.
-pub const MOST_VALUE: u64 = 16_000_000_000;
-const LAST_CLOCK: u64 = u32::MAX as u64;
+use crate::limits::{LAST_CLOCK, MOST_VALUE};
 
 /// What a call tells, as the proved functions tell it.
 #[derive(Clone, Copy, Debug, Default, PartialEq, Eq)]
-#[repr(C)]
 pub struct Told {
     /// The numbered answer.
     pub answer: u64,
@@ -30,7 +26,8 @@ fn big(bytes: &[u8]) -> u64 {
     bytes.iter().fold(0, |n, b| (n << 8) | *b as u64)
 }
 
-fn slot_sound(cell: &[u64], destination: u64) -> bool {
+/// Whether four numbers are no slot, or a sound one of a station with this destination clock.
+pub fn slot_sound(cell: &[u64], destination: u64) -> bool {
     match cell[0] {
         0 => cell[1] == 0 && cell[2] == 0 && cell[3] == 0,
         1 => cell[1] <= LAST_CLOCK && cell[2] < destination && (1..=MOST_VALUE).contains(&cell[3]),
@@ -38,7 +35,8 @@ fn slot_sound(cell: &[u64], destination: u64) -> bool {
     }
 }
 
-fn token_sound(cell: &[u64], source: u64) -> bool {
+/// Whether four numbers are no token, or a sound one of a station with this source clock.
+pub fn token_sound(cell: &[u64], source: u64) -> bool {
     match cell[0] {
         0 => cell[1] == 0 && cell[2] == 0 && cell[3] == 0,
         1 => cell[1] < source && cell[2] <= LAST_CLOCK && cell[3] <= MOST_VALUE,
@@ -128,85 +126,4 @@ pub fn write(m: &[u64; 13], out: &mut [u8]) -> Told {
         put_held(&mut record[size - 19..], 6, &m[9..13]);
     }
     Told { result: size as u64, ..Told::default() }
-}
-
-/// Whether a station's numbers are sound.
-pub fn station_sound(s: &[u64; 134]) -> bool {
-    let (number, count) = (s[0], s[1]);
-    if !(2..=16).contains(&count)
-        || number >= count
-        || s[2] > MOST_VALUE
-        || s[3] > 1_000_000_000
-        || s[4] > LAST_CLOCK
-        || s[5] > LAST_CLOCK
-    {
-        return false;
-    }
-    (0..16).all(|k| {
-        let (slot, token) = (&s[6 + 4 * k..10 + 4 * k], &s[70 + 4 * k..74 + 4 * k]);
-        let peer = k as u64 != number && (k as u64) < count;
-        slot_sound(slot, s[5]) && token_sound(token, s[4]) && (peer || slot[0] + token[0] == 0)
-    })
-}
-
-/// Receives a record at a station.
-pub fn receive(s: &mut [u64; 134], bytes: &[u8]) -> Told {
-    if !station_sound(s) {
-        return refused(1);
-    }
-    let Some(m) = message_of(bytes) else {
-        return refused(9);
-    };
-    if m[0] >= s[1] || m[1] >= s[1] {
-        return refused(2);
-    }
-    if m[1] != s[0] {
-        return refused(11);
-    }
-    let (slot, token) = (6 + 4 * m[0] as usize, 70 + 4 * m[0] as usize);
-    let fills = m[9] == 1 && s[slot] == 1 && s[slot + 1] == m[10] && s[slot + 2] == m[11];
-    if fills && s[2] + m[12] > MOST_VALUE {
-        return refused(10);
-    }
-    let mut told = Told::default();
-    if fills {
-        s[2] += m[12];
-        s[slot..slot + 4].fill(0);
-        told.result = m[12];
-        told.rules |= 1;
-    }
-    take_slot(s, &m, slot, &mut told);
-    take_token(s, &m, token, &mut told);
-    told
-}
-
-fn take_slot(s: &mut [u64; 134], m: &[u64; 13], slot: usize, told: &mut Told) {
-    if s[slot] == 1 && s[slot + 1] < m[3] {
-        s[slot..slot + 4].fill(0);
-        told.rules |= 2;
-    }
-    let half = m[2].saturating_sub(s[2]) / 2;
-    if s[slot] == 0 && half >= 1 && s[5] < LAST_CLOCK {
-        let opened = [1, m[3], s[5], half];
-        s[slot..slot + 4].copy_from_slice(&opened);
-        s[5] += 1;
-        told.rules |= 4;
-        told.opened = half;
-    }
-}
-
-fn take_token(s: &mut [u64; 134], m: &[u64; 13], token: usize, told: &mut Told) {
-    let shown = if m[5] == 1 { m[7] } else { m[4] };
-    if s[token] == 1 && s[token + 2] < shown {
-        s[token..token + 4].fill(0);
-        told.rules |= 8;
-    }
-    if m[5] == 1 && m[6] == s[4] && s[4] < LAST_CLOCK {
-        let q = s[2].min(m[8]);
-        s[2] -= q;
-        s[token..token + 4].copy_from_slice(&[1, m[6], m[7], q]);
-        s[4] += 1;
-        told.rules |= 16;
-        told.made = q;
-    }
 }

@@ -1,10 +1,11 @@
 //! A whole script run by hand on a table that is changed in place.
 
-use crate::table::Table;
 use std::fmt::Write;
 
+use crate::table::Table;
+
 fn number(word: &str) -> Option<u64> {
-    let digits = word.len() >= 1 && word.len() <= 10 && word.bytes().all(|b| b.is_ascii_digit());
+    let digits = (1..=10).contains(&word.len()) && word.bytes().all(|b| b.is_ascii_digit());
     if !digits || (word.len() > 1 && word.starts_with('0')) {
         return None;
     }

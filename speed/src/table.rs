@@ -1,158 +1,15 @@
 //! A table of stations changed in place, tested for soundness before every step or once before a
 //! run: what the proved table is timed against.
 
-/// A slot or a token.
-#[derive(Clone, Copy)]
-pub struct Held {
-    source: u32,
-    destination: u32,
-    quantity: u64,
-}
-
-/// A station, with its cells by peer.
-#[derive(Clone, Copy)]
-pub struct Station {
-    number: usize,
-    count: usize,
-    value: u64,
-    intake: u64,
-    source: u32,
-    destination: u32,
-    slots: [Option<Held>; 16],
-    tokens: [Option<Held>; 16],
-}
-
-/// What a station shows another.
-#[derive(Clone, Copy)]
-pub struct Message {
-    from: usize,
-    to: usize,
-    value: u64,
-    source: u32,
-    destination: u32,
-    slot: Option<Held>,
-    token: Option<Held>,
-}
+use crate::limits::{MOST_AMOUNT, MOST_VALUE};
+use crate::rules::Message;
+use crate::seat::Station;
 
 /// All stations, and the messages that wait.
 pub struct Table {
     count: usize,
     stations: [Station; 16],
     pool: [Option<Message>; 64],
-}
-
-const MOST_VALUE: u64 = 16_000_000_000;
-const MOST_AMOUNT: u64 = 1_000_000_000;
-
-fn slot_sound(cell: &Option<Held>, destination: u32) -> bool {
-    match cell {
-        None => true,
-        Some(l) => (1..=MOST_VALUE).contains(&l.quantity) && l.destination < destination,
-    }
-}
-
-fn token_sound(cell: &Option<Held>, source: u32) -> bool {
-    match cell {
-        None => true,
-        Some(t) => t.quantity <= MOST_VALUE && t.source < source,
-    }
-}
-
-impl Station {
-    fn fresh(number: usize, count: usize) -> Station {
-        Station {
-            number,
-            count,
-            value: 0,
-            intake: 0,
-            source: 0,
-            destination: 0,
-            slots: [None; 16],
-            tokens: [None; 16],
-        }
-    }
-
-    fn sound(&self) -> bool {
-        (2..=16).contains(&self.count)
-            && self.number < self.count
-            && self.value <= MOST_VALUE
-            && self.intake <= MOST_AMOUNT
-            && (0..16).all(|k| {
-                let peer = k != self.number && k < self.count;
-                slot_sound(&self.slots[k], self.destination)
-                    && token_sound(&self.tokens[k], self.source)
-                    && (peer || self.slots[k].is_none() && self.tokens[k].is_none())
-            })
-    }
-
-    /// The five rules: the amount filled, the rules that acted as a sum of 1, 2, 4, 8, 16, and the
-    /// quantities of a slot opened and a token made; or the refusal 10.
-    fn receive(&mut self, m: &Message) -> Result<[u64; 4], u8> {
-        let j = m.from;
-        let mut filled = 0;
-        let mut rules = 0;
-        if let (Some(t), Some(l)) = (m.token, self.slots[j]) {
-            if t.source == l.source && t.destination == l.destination {
-                if self.value + t.quantity > MOST_VALUE {
-                    return Err(10);
-                }
-                self.value += t.quantity;
-                self.slots[j] = None;
-                filled = t.quantity;
-                rules |= 1;
-            }
-        }
-        if self.slots[j].is_some_and(|l| l.source < m.source) {
-            self.slots[j] = None;
-            rules |= 2;
-        }
-        let opened = self.open_slot(m);
-        rules |= u64::from(opened > 0) << 2;
-        let shown = m.slot.map_or(m.destination, |l| l.destination);
-        if self.tokens[j].is_some_and(|t| t.destination < shown) {
-            self.tokens[j] = None;
-            rules |= 8;
-        }
-        let made = self.make_token(m);
-        rules |= u64::from(made.is_some()) << 4;
-        Ok([filled, rules, opened, made.unwrap_or(0)])
-    }
-
-    fn open_slot(&mut self, m: &Message) -> u64 {
-        let half = m.value.saturating_sub(self.value) / 2;
-        if self.slots[m.from].is_none() && half >= 1 && self.destination < u32::MAX {
-            self.slots[m.from] =
-                Some(Held { source: m.source, destination: self.destination, quantity: half });
-            self.destination += 1;
-            return half;
-        }
-        0
-    }
-
-    fn make_token(&mut self, m: &Message) -> Option<u64> {
-        let l = m.slot?;
-        if l.source == self.source && self.source < u32::MAX {
-            let q = self.value.min(l.quantity);
-            self.value -= q;
-            self.tokens[m.from] = Some(Held { quantity: q, ..l });
-            self.source += 1;
-            return Some(q);
-        }
-        None
-    }
-}
-
-impl Message {
-    fn sound(&self, count: usize) -> bool {
-        self.from <= 15
-            && self.to <= 15
-            && self.from != self.to
-            && self.value <= MOST_VALUE
-            && slot_sound(&self.slot, self.destination)
-            && token_sound(&self.token, self.source)
-            && self.from < count
-            && self.to < count
-    }
 }
 
 impl Table {
@@ -281,7 +138,7 @@ impl Table {
         let Some(m) = &self.pool[p as usize] else {
             return Err(8);
         };
-        self.stations[m.to].receive(m)
+        self.stations[m.to].take(m)
     }
 
     fn lose(&mut self, p: u64) -> Result<u64, u8> {
@@ -290,9 +147,7 @@ impl Table {
         }
         self.pool[p as usize].take().map(|_| 0).ok_or(8)
     }
-}
 
-impl Table {
     /// Each station's value and clocks.
     pub fn stations(&self) -> impl Iterator<Item = (u64, u32, u32)> + '_ {
         self.stations[..self.count].iter().map(|s| (s.value, s.source, s.destination))
@@ -304,7 +159,7 @@ impl Table {
         pairs
             .filter_map(|(i, j)| {
                 let (t, l) = (self.stations[i].tokens[j]?, self.stations[j].slots[i]?);
-                (t.source == l.source && t.destination == l.destination).then_some(t.quantity)
+                t.fits(&l).then_some(t.quantity)
             })
             .sum()
     }

@@ -1,6 +1,8 @@
 //! The second bench program: a script on standard input, its outcome on
 //! standard output.
 
+#![forbid(unsafe_code)]
+
 use std::io::{Read, Write};
 
 use second::{script, Fault};

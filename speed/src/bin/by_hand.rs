@@ -1,5 +1,7 @@
 //! A script from standard input, run by hand, to standard output.
 
+#![forbid(unsafe_code)]
+
 use std::io::{Read, Write};
 
 fn main() -> std::io::Result<()> {
