@@ -13,8 +13,8 @@ use Rattle.rules.specs.declared.stock.Stock.{Stock}
 use Rattle.rules.specs.declared.taking.Taken.{Taken}
 use Rattle.station.specs.declared.outcome.Outcome.{Outcome}
 use Rattle.station.specs.declared.station.Station.{Station}
-use Rattle.rules.specs.Answers.{done, notSound, noRecord}
-use Rattle.rules.specs.Refusals.{answerOf}
+use Rattle.ground.specs.Answers.{done, notSound, noRecord}
+use Rattle.ground.specs.Refusals.{answerOf}
 use Rattle.rules.specs.Report.{noReport}
 use Rattle.rules.specs.Stock.{stocked, addToAnswer, addedTo, drawFromAnswer, drawnFrom}
 use Rattle.rules.specs.Taking.{takeOf, takeAnswer, takenBy, takenOf}

@@ -7,12 +7,13 @@ use mathlib.Core.List.{List, [], _∷_, map, List·Memᴰ·head, List·Memᴰ·t
 use lib.ListN.{length}
 use Rattle.rules.specs.declared.message.Message.{Message}
 use Rattle.rules.specs.declared.side.Side.{Side}
-use Rattle.rules.specs.Answers.{notSound, noRecord}
-use Rattle.rules.specs.Limits.{mostStations}
-use Rattle.rules.specs.Refusals.{Refusal, answerOf, numbersIn}
+use Rattle.ground.specs.Answers.{notSound, noRecord}
+use Rattle.ground.specs.Limits.{mostStations}
+use Rattle.ground.specs.Refusals.{Refusal, answerOf, numbersIn}
 use Rattle.rules.specs.Stock.{addToRefusals, drawFromRefusals}
 use Rattle.rules.specs.Taking.{takeRefusals}
-use Rattle.rules.proofs.Refusing.{answer-among, add-to-tells, draw-from-tells, take-tells}
+use Rattle.ground.proofs.Refusing.{answer-among}
+use Rattle.rules.proofs.Refusing.{add-to-tells, draw-from-tells, take-tells}
 use Rattle.station.specs.declared.station.Station.{Station}
 use Rattle.station.specs.Steps.{freshRefusals, addRefusals, drawRefusals, showRefusals, receiveRefusals, receiveOf}
 use Rattle.station.proofs.Answering.{fresh-tells, add-tells, draw-tells, show-tells, receive-tells}

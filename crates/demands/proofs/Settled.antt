@@ -57,14 +57,21 @@ filling script run out x y p q =
 pub settled : Settled
 settled =
     record {
+      ground·SourceClock·in-range = λ self. given refl;
+      ground·SourceClock·is-above = λ self other. given refl;
+      ground·SourceClock·equals = λ self other. given refl;
+      ground·SourceClock·before-end = λ self. given refl;
+      ground·SourceClock·next = λ self. given refl;
+      ground·DestinationClock·in-range = λ self. given refl;
+      ground·DestinationClock·is-above = λ self other. given refl;
+      ground·DestinationClock·equals = λ self other. given refl;
+      ground·DestinationClock·before-end = λ self. given refl;
+      ground·DestinationClock·next = λ self. given refl;
+      ground·half = λ d. given refl;
       rules·take = λ x m. given refl;
       rules·add-to = λ value intake amount. given refl;
       rules·draw-from = λ value intake amount. given refl;
       rules·clocks-agree = λ t l. given refl;
-      rules·SourceClock·in-range = λ self. given refl;
-      rules·SourceClock·is-above = λ self other. given refl;
-      rules·DestinationClock·in-range = λ self. given refl;
-      rules·DestinationClock·is-above = λ self other. given refl;
       rules·no-message = given refl;
       rules·no-report = given refl;
       rules·rules-of = λ report. given refl;

@@ -5,9 +5,14 @@
 -- to the parameters by their names: `tools/listed` holds each row against the source.
 -- Not listed: `station::count_is_sound`, `station::station_is_sound`. They are tests.
 -- Not listed: `station::message_is_sound`, `table::table_is_sound`. They are tests.
--- Not listed: `rules::clocks_agree`, `rules::SourceClock::in_range`. They are tests.
--- Not listed: `rules::DestinationClock::in_range`. It is a test.
--- Not listed: `rules::SourceClock::is_above`, `rules::DestinationClock::is_above`. They compare.
+-- Not listed: `rules::clocks_agree`, `ground::SourceClock::in_range`. They are tests.
+-- Not listed: `ground::DestinationClock::in_range`. It is a test.
+-- Not listed: `ground::SourceClock::before_end`. It is a test.
+-- Not listed: `ground::DestinationClock::before_end`. It is a test.
+-- Not listed: `ground::SourceClock::is_above`, `ground::DestinationClock::is_above`. They compare.
+-- Not listed: `ground::SourceClock::equals`, `ground::DestinationClock::equals`. They compare.
+-- Not listed: `ground::SourceClock::next`, `ground::DestinationClock::next`. They take any clock.
+-- Not listed: `ground::half`. It takes any difference.
 -- Not listed: `station::blank_station`, `rules::no_message`. They make what they are told to.
 -- Not listed: `rules::no_report`. It makes what it is told to.
 -- Not listed: `rules::rules_of`, `steps::numbers_for`. They tell what they are given in numbers.
@@ -26,8 +31,8 @@ use Rattle.rules.specs.declared.taking.Taken.{Taken}
 use Rattle.station.specs.declared.message.Shown.{Shown}
 use Rattle.station.specs.declared.outcome.Outcome.{Outcome}
 use Rattle.station.specs.declared.station.Station.{Station}
-use Rattle.rules.specs.Answers.{done}
-use Rattle.rules.specs.Limits.{mostStations}
+use Rattle.ground.specs.Answers.{done}
+use Rattle.ground.specs.Limits.{mostStations}
 use Rattle.rules.specs.Report.{noReport}
 use Rattle.rules.specs.Message.{noMessage}
 use Rattle.rules.specs.Stock.{addedTo, drawnFrom}

@@ -5,8 +5,8 @@ use Prim.Native.Nat.{ℕ}
 use mathlib.Core.List.{List, [], _∷_, List·Memᴰ}
 use Rattle.rules.specs.declared.message.Message.{Message}
 use Rattle.rules.specs.declared.side.Side.{Side}
-use Rattle.rules.specs.Answers.{done}
-use Rattle.rules.specs.Refusals.{Refusal, numbersIn}
+use Rattle.ground.specs.Answers.{done}
+use Rattle.ground.specs.Refusals.{Refusal, numbersIn}
 use Rattle.rules.specs.Stock.{addToRefusals, addedTo, drawFromRefusals, drawnFrom}
 use Rattle.rules.specs.Taking.{takeRefusals, takenOf}
 use Rattle.station.specs.declared.station.Station.{Station}

@@ -6,7 +6,7 @@ use mathlib.Core.List.{List}
 use lib.Dec.{T as Holds, eqb, ltb, T-not, not-T, ltb→lt, lt→ltb, eqb→eq}
 use lib.ListN.{length}
 use native.Mathlib.Omega.{arith}
-use Rattle.rules.specs.Refusals.{first}
+use Rattle.ground.specs.Refusals.{first}
 use Rattle.pool.specs.Pool.{placeIn, isEmpty, lowestEmpty}
 use Rattle.pool.specs.Lent.{told, left, sendInAnswer, loseInAnswer}
 use Rattle.pool.specs.declared.lent.Told.{Told}

@@ -5,8 +5,8 @@ use mathlib.Core.Path.{_≡_}
 use mathlib.Core.List.{List, [], _∷_}
 use lib.Dec.{eqb, ltb}
 use lib.ListN.{length, set}
-use Rattle.rules.specs.Answers.{done, notSound, poolFull, noSuchPlace, emptyPlace}
-use Rattle.rules.specs.Refusals.{Refusal, when, answerOf}
+use Rattle.ground.specs.Answers.{done, notSound, poolFull, noSuchPlace, emptyPlace}
+use Rattle.ground.specs.Refusals.{Refusal, when, answerOf}
 use Rattle.rules.specs.declared.message.Message.{Message}
 use Rattle.pool.specs.Pool.{mostPlaces, placeIn, isEmpty, lowestEmpty}
 use Rattle.pool.specs.declared.lent.Told.{Told}

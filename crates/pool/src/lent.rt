@@ -6,7 +6,7 @@ use crate::places::MOST_PLACES;
 use crate::places::Place;
 use crate::places::Waiting;
 use crate::places::is_empty;
-use rules::answers;
+use ground::answers;
 use rules::message::Message;
 
 // The numbered answer, and the place of a send that is done.

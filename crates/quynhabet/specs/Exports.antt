@@ -6,8 +6,8 @@ use mathlib.Core.List.{List, [], _∷_}
 use lib.ListN.{length}
 use Rattle.station.specs.declared.outcome.Outcome.{Outcome}
 use Rattle.rules.specs.declared.report.Report.{Report}
-use Rattle.rules.specs.Answers.{notSound, noRecord}
-use Rattle.rules.specs.Refusals.{Refusal, when, answerOf}
+use Rattle.ground.specs.Answers.{notSound, noRecord}
+use Rattle.ground.specs.Refusals.{Refusal, when, answerOf}
 use Rattle.rules.specs.Report.{noReport, rulesOf}
 use Rattle.station.specs.Sound.{stationSound}
 use Rattle.station.specs.Steps.{freshOf, addOf, drawOf, messageFor}

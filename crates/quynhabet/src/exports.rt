@@ -13,9 +13,9 @@ use crate::stations::station_fits;
 use crate::stations::station_of;
 use crate::told::Told;
 use crate::told::plain_told;
-use rules::answers::DONE;
-use rules::answers::NO_RECORD;
-use rules::answers::NOT_SOUND;
+use ground::answers::DONE;
+use ground::answers::NO_RECORD;
+use ground::answers::NOT_SOUND;
 use station::sound::station_is_sound;
 
 // Makes a station with nothing in it: refused by 1, 2.

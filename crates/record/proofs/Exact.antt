@@ -9,7 +9,7 @@ use native.Mathlib.Omega.{arith}
 use native.Mathlib.Nat.{sub-zero}
 use lib.ListN.{length}
 use Rattle.station.specs.Sound.{messageSound}
-use Rattle.rules.proofs.Below.{needed}
+use Rattle.ground.proofs.Tests.{needed}
 use Rattle.record.specs.declared.reading.Reading.{Reading}
 use Rattle.record.specs.Numbers.{Bytes}
 use Rattle.record.specs.Layout.{bytesOf}

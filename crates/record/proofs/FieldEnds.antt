@@ -7,7 +7,7 @@ use native.Mathlib.Omega.{arith}
 use lib.Dec.{leb, eqb}
 use lib.ListN.{length}
 use borrow.Author.Tests.{leb-true, le-leb, lt-leb}
-use Rattle.rules.proofs.Below.{both-hold}
+use Rattle.ground.proofs.Tests.{both-hold}
 use Rattle.record.specs.Numbers.{numberAt}
 use Rattle.record.specs.Reading.{fieldAt, headAt}
 

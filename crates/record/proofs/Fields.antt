@@ -7,7 +7,7 @@ use native.Mathlib.Omega.{arith}
 use native.Mathlib.Nat.{add-assoc}
 use lib.ListN.{length, drop}
 use lib.Seq.{drop-length}
-use Rattle.rules.proofs.Below.{needed}
+use Rattle.ground.proofs.Tests.{needed}
 use Rattle.record.specs.Numbers.{Bytes, big, numberAt}
 use Rattle.record.specs.Layout.{field, clocks, held, slotField, tokenField, bytesOf}
 use Rattle.record.specs.Reading.{fieldAt, sourceAt, destinationAt, slotAt, tokenAt, pastHeld, messageAt, endAt, isRecord}

@@ -8,16 +8,16 @@ use native.Mathlib.Omega.{arith}
 use native.Mathlib.Nat.{sub-zero}
 use lib.ListN.{length, drop}
 use borrow.Author.Tests.{eq-eqb}
-use Rattle.rules.specs.declared.clocks.SourceClock.{SourceClock}
-use Rattle.rules.specs.declared.clocks.DestinationClock.{DestinationClock}
+use Rattle.ground.specs.declared.clocks.SourceClock.{SourceClock}
+use Rattle.ground.specs.declared.clocks.DestinationClock.{DestinationClock}
 use Rattle.rules.specs.declared.held.HeldSlot.{HeldSlot}
 use Rattle.rules.specs.declared.held.HeldSlot.the-variants.{NoSlot, OneSlot}
 use Rattle.rules.specs.declared.held.HeldToken.{HeldToken}
 use Rattle.rules.specs.declared.held.HeldToken.the-variants.{NoToken, OneToken}
 use Rattle.rules.specs.declared.message.Message.{Message}
-use Rattle.rules.specs.Limits.{lastClock, mostValue}
+use Rattle.ground.specs.Limits.{lastClock, mostValue}
 use Rattle.station.specs.Sound.{messageSound, slotSound, tokenSound}
-use Rattle.rules.proofs.Below.{needed}
+use Rattle.ground.proofs.Tests.{needed}
 use Rattle.record.specs.Numbers.{big}
 use Rattle.record.specs.Layout.{bytesOf, slotField, tokenField}
 use Rattle.record.specs.Reading.{fieldAt, slotAt, tokenAt, messageAt, isRecord, readAt, readOf}

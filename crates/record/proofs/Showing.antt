@@ -4,7 +4,7 @@ use mathlib.Core.Path.{_≡_, refl, ap, sym, subst}
 use mathlib.Core.List.{List}
 use lib.ListN.{length}
 use borrow.Author.Tests.{lt-ltb, ne-eqb}
-use Rattle.rules.proofs.Refusing.{answer-before}
+use Rattle.ground.proofs.Refusing.{answer-before}
 use Rattle.station.specs.declared.station.Station.{Station}
 use Rattle.station.specs.Steps.{showRefusals, showAnswer, showing, showOf, messageFor}
 use Rattle.station.proofs.Answering.{shown}

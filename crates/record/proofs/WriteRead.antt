@@ -13,10 +13,10 @@ use mir.Syntax.{w8}
 use mir.Val.{Fits}
 use Rattle.station.specs.declared.station.Station.{Station}
 use Rattle.rules.specs.declared.message.Message.{Message}
-use Rattle.rules.specs.Refusals.{Refusal, answerOf}
+use Rattle.ground.specs.Refusals.{Refusal, answerOf}
 use Rattle.station.specs.Sound.{messageSound}
 use Rattle.station.specs.Steps.{showRefusals, messageFor}
-use Rattle.rules.proofs.Refusing.{passed, answer-before}
+use Rattle.ground.proofs.Refusing.{passed, answer-before}
 use Rattle.station.proofs.Keeps.{message-sound}
 use Rattle.record.specs.declared.reading.Reading.{Reading}
 use Rattle.record.specs.declared.writing.Written.{Written}

@@ -4,8 +4,8 @@ use mathlib.Core.Bool.{not}
 use mathlib.Core.List.{List, [], _∷_, _++_}
 use lib.Dec.{ltb, eqb}
 use lib.ListN.{length}
-use Rattle.rules.specs.Answers.{notSound, notBelowCount, noRecord, forAnother, shortBuffer}
-use Rattle.rules.specs.Refusals.{Refusal, when, answerOf}
+use Rattle.ground.specs.Answers.{notSound, notBelowCount, noRecord, forAnother, shortBuffer}
+use Rattle.ground.specs.Refusals.{Refusal, when, answerOf}
 use Rattle.station.specs.declared.station.Station.{Station}
 use Rattle.station.specs.declared.outcome.Outcome.{Outcome}
 use Rattle.station.specs.Sound.{stationSound}

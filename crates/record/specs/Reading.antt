@@ -4,17 +4,17 @@ use mathlib.Core.List.{List, [], _∷_}
 use mathlib.Core.Bool.{Bool, not, cond, _&&_}
 use lib.Dec.{leb, eqb}
 use lib.ListN.{length}
-use Rattle.rules.specs.declared.clocks.SourceClock.{SourceClock}
-use Rattle.rules.specs.declared.clocks.DestinationClock.{DestinationClock}
+use Rattle.ground.specs.declared.clocks.SourceClock.{SourceClock}
+use Rattle.ground.specs.declared.clocks.DestinationClock.{DestinationClock}
 use Rattle.rules.specs.declared.held.HeldSlot.{HeldSlot}
 use Rattle.rules.specs.declared.held.HeldSlot.the-variants.{NoSlot, OneSlot}
 use Rattle.rules.specs.declared.held.HeldToken.{HeldToken}
 use Rattle.rules.specs.declared.held.HeldToken.the-variants.{NoToken, OneToken}
 use Rattle.rules.specs.declared.message.Message.{Message}
-use Rattle.rules.specs.Answers.{done, noRecord}
+use Rattle.ground.specs.Answers.{done, noRecord}
 use Rattle.station.specs.Sound.{messageSound}
 use Rattle.rules.specs.Message.{noMessage}
-use Rattle.rules.specs.Refusals.{Refusal, when}
+use Rattle.ground.specs.Refusals.{Refusal, when}
 use Rattle.record.specs.declared.reading.Reading.{Reading}
 use Rattle.record.specs.Numbers.{numberAt}
 

@@ -6,9 +6,9 @@ use mathlib.Core.Bool.{not}
 use lib.Dec.{ltb}
 use lib.ListN.{length, drop}
 use Rattle.rules.specs.declared.message.Message.{Message}
-use Rattle.rules.specs.Answers.{done, noRecord, shortBuffer}
+use Rattle.ground.specs.Answers.{done, noRecord, shortBuffer}
 use Rattle.station.specs.Sound.{messageSound}
-use Rattle.rules.specs.Refusals.{Refusal, when, answerOf}
+use Rattle.ground.specs.Refusals.{Refusal, when, answerOf}
 use Rattle.record.specs.declared.writing.Written.{Written}
 use Rattle.record.specs.Layout.{bytesOf}
 

@@ -4,7 +4,7 @@ ghost use Rattle.record.specs.AtStation.{WritesFor, receiveBytesOf};
 use crate::reading::read;
 use crate::writing::Written;
 use crate::writing::write;
-use rules::answers::DONE;
+use ground::answers::DONE;
 use station::outcome::Outcome;
 use station::station::Station;
 

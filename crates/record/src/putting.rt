@@ -7,8 +7,8 @@ ghost use lib.Seq.{sets};
 ghost use Rattle.record.specs.Numbers.{big};
 ghost use Rattle.record.specs.Layout.{field, clocks, held, slotField, tokenField};
 use crate::numbers::put_number;
-use rules::clocks::DestinationClock;
-use rules::clocks::SourceClock;
+use ground::clocks::DestinationClock;
+use ground::clocks::SourceClock;
 use rules::held::HeldSlot;
 use rules::held::HeldToken;
 

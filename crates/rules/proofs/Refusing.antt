@@ -1,10 +1,7 @@
 -- Answers looked for in order. Assumes nothing.
 use Prim.Native.Nat.{ℕ, zero, suc, _+_, _≤_}
 use mathlib.Core.Path.{_≡_, refl, sym}
-use mathlib.Core.Bool.{Bool, true, false, cond, not}
-use mathlib.Core.Logic.{⊎-elim}
-use mathlib.Core.List.{List, [], _∷_, _++_, List·Memᴰ, List·Memᴰ·head, List·Memᴰ·tail, List·Memᴰ·cases-cons}
-use native.Mathlib.Omega.{arith}
+use mathlib.Core.Bool.{true, false, not}
 use lib.Dec.{ltb, leb}
 use borrow.Author.Tests.{leb-true, ltb-false, not-false}
 use Rattle.rules.specs.declared.held.HeldToken.{HeldToken}
@@ -13,37 +10,15 @@ use Rattle.rules.specs.declared.message.Message.{Message}
 use Rattle.rules.specs.declared.side.Side.{Side}
 use Rattle.rules.specs.declared.stock.Stock.{Stock}
 use Rattle.rules.specs.declared.taking.Taken.{Taken}
-use Rattle.rules.specs.Limits.{mostAmount, mostIntake, mostValue}
-use Rattle.rules.specs.Answers.{done, notSound, badAmount, tooFew}
+use Rattle.ground.specs.Limits.{mostAmount, mostIntake, mostValue}
+use Rattle.ground.specs.Answers.{notSound, badAmount, tooFew}
 use Rattle.rules.specs.Report.{noReport}
-use Rattle.rules.specs.Refusals.{Refusal, first, answerOf, numbersIn}
+use Rattle.ground.specs.Refusals.{answerOf}
 use Rattle.rules.specs.Rules.{fill}
 use Rattle.rules.specs.Taking.{tokenSmall, messageSmall, tokenFits, takeOf, takeRefusals, takeAnswer, takenBy, takenOf, Takes}
 use Rattle.rules.specs.Stock.{stockSound, amountSound, stocked, addToRefusals, addToAnswer, addDone, addedTo, drawFromRefusals, drawFromAnswer, drawDone, drawnFrom, refusedStock}
-use Rattle.rules.proofs.Below.{both-hold}
-
--- an answer of 0 has passed its first test
-pub passed : (t : Bool) (n : ℕ) {later : ℕ} → first t (suc n) later ≡ 0 → (t ≡ false) × (later ≡ 0)
-passed false n e = (refl, e)
-passed true n e = absurd (omega arith)
-
--- the answer is 0 or one of the numbers
-among-by : (t : Bool) (n : ℕ) {later : ℕ} {ns : List ℕ} → List·Memᴰ later (done ∷ ns) → List·Memᴰ (cond t n later) (done ∷ n ∷ ns)
-among-by true n m = List·Memᴰ·tail (List·Memᴰ·head refl)
-among-by false n m = ⊎-elim (λ e. List·Memᴰ·head e) (λ l. List·Memᴰ·tail (List·Memᴰ·tail l)) (List·Memᴰ·cases-cons m)
-
-pub answer-among : (rs : List Refusal) → List·Memᴰ (answerOf rs) (done ∷ numbersIn rs)
-answer-among [] = List·Memᴰ·head refl
-answer-among (r ∷ rs) = among-by (r .condition) (r .number) (answer-among rs)
-
--- what is refused by the first of some conditions is refused by those with more after them
-refused-before : (t : Bool) (n : ℕ) {a b : ℕ} → ((b ≡ 0 → ⊥) → a ≡ b) → (cond t n b ≡ 0 → ⊥) → cond t n a ≡ cond t n b
-refused-before true n same f = refl
-refused-before false n same f = same f
-
-pub answer-before : (xs ys : List Refusal) → (answerOf xs ≡ 0 → ⊥) → answerOf (xs ++ ys) ≡ answerOf xs
-answer-before [] ys f = absurd (f refl)
-answer-before (r ∷ rs) ys f = refused-before (r .condition) (r .number) (answer-before rs ys) f
+use Rattle.ground.proofs.Tests.{both-hold}
+use Rattle.ground.proofs.Refusing.{passed}
 
 pub amount-small : (amount : ℕ) → amountSound amount ≡ true → amount ≤ mostAmount
 amount-small amount e = leb-true _ _ (both-hold (leb 1 amount) _ e .1)

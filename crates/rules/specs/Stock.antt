@@ -5,9 +5,9 @@ use mathlib.Core.Bool.{Bool, not, _&&_}
 use mathlib.Core.List.{List, [], _∷_}
 use lib.Dec.{ltb, leb}
 use Rattle.rules.specs.declared.stock.Stock.{Stock}
-use Rattle.rules.specs.Limits.{mostAmount, mostIntake, mostValue}
-use Rattle.rules.specs.Answers.{done, notSound, badAmount, intakeLimit, valueLimit, tooFew}
-use Rattle.rules.specs.Refusals.{Refusal, when, answerOf}
+use Rattle.ground.specs.Limits.{mostAmount, mostIntake, mostValue}
+use Rattle.ground.specs.Answers.{done, notSound, badAmount, intakeLimit, valueLimit, tooFew}
+use Rattle.ground.specs.Refusals.{Refusal, when, answerOf}
 
 -- value and intake are in range
 abbrev pub stockSound : ℕ → ℕ → Bool

@@ -9,10 +9,10 @@ use Rattle.rules.specs.declared.message.Message.{Message}
 use Rattle.rules.specs.declared.side.Side.{Side}
 use Rattle.rules.specs.declared.rules.Ruled.{Ruled}
 use Rattle.rules.specs.declared.taking.Taken.{Taken}
-use Rattle.rules.specs.Limits.{mostValue}
-use Rattle.rules.specs.Answers.{done, notSound, noRecord, valueLimit}
+use Rattle.ground.specs.Limits.{mostValue}
+use Rattle.ground.specs.Answers.{done, notSound, noRecord, valueLimit}
 use Rattle.rules.specs.Report.{noReport}
-use Rattle.rules.specs.Refusals.{Refusal, when, answerOf}
+use Rattle.ground.specs.Refusals.{Refusal, when, answerOf}
 use Rattle.rules.specs.Rules.{fill, dropSlot, openSlot, dropToken, makeToken}
 
 -- the result is the amount filled; the report says which rules acted, and the quantities of a slot

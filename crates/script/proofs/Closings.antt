@@ -8,13 +8,13 @@ use native.Mathlib.Numerals.{add-one}
 use native.Mathlib.Omega.{arith}
 use lib.ListN.{length, length-append}
 use lib.Seq.{sets}
-use Rattle.rules.specs.Limits.{mostStations, mostValue}
+use Rattle.ground.specs.Limits.{mostStations, mostValue}
 use Rattle.table.specs.declared.table.Table.{Table}
 use Rattle.table.specs.declared.way.Summed.{Summed}
 use Rattle.table.specs.Table.{stationAt}
 use Rattle.table.specs.Sound.{tableSound}
-use Rattle.handshake.specs.Sums.{sumBelow}
-use Rattle.rules.specs.Refusals.{answerOf}
+use Rattle.ground.specs.Sums.{sumBelow}
+use Rattle.ground.specs.Refusals.{answerOf}
 use Rattle.table.specs.Way.{sumRefusals, summed, atStations, between, onTheWay, wayFrom}
 use Rattle.table.proofs.Tables.{table-parts}
 use Rattle.table.proofs.Sums.{between-small, station-sound}

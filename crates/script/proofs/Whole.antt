@@ -22,7 +22,8 @@ use Rattle.script.specs.Reading.{linesFrom, pastLines}
 use Rattle.script.specs.Starting.{notStarted, startedOf}
 use Rattle.script.specs.Filling.{atOnce, closed, runSound, stepped}
 use Rattle.script.specs.Printed.{mostTurns, printedBy, printedIn, putIn, runIn}
-use Rattle.script.proofs.Readings.{below-or-not, lines-onward, lines-some, lines-within}
+use Rattle.ground.proofs.Tests.{below-or-not}
+use Rattle.script.proofs.Readings.{lines-onward, lines-some, lines-within}
 use Rattle.script.proofs.Turns.{turn-closes, turn-steps}
 use Rattle.script.proofs.Runs.{owed-ended, owed-lines, owedFrom}
 use Rattle.script.proofs.Starts.{begun, Begun, going, refused, start-prints}

@@ -4,7 +4,7 @@ use mathlib.Core.Bool.{cond}
 use mathlib.Core.List.{List, [], _∷_, _++_}
 use lib.Dec.{ltb}
 use lib.ListN.{length}
-use Rattle.rules.specs.Answers.{badLine, longScript}
+use Rattle.ground.specs.Answers.{badLine, longScript}
 use Rattle.table.specs.declared.table.Table.{Table}
 use Rattle.table.specs.declared.stepped.Stepped.{Stepped}
 use Rattle.table.specs.Table.{stationAt}

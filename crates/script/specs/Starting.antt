@@ -6,8 +6,8 @@ use mathlib.Core.List.{List, [], _∷_}
 use lib.Dec.{ltb}
 use lib.ListN.{length}
 use lib.Seq.{sets}
-use Rattle.rules.specs.Answers.{done, notSound, badLine, longScript, shortBuffer}
-use Rattle.rules.specs.Refusals.{Refusal, when, answerOf}
+use Rattle.ground.specs.Answers.{done, notSound, badLine, longScript, shortBuffer}
+use Rattle.ground.specs.Refusals.{Refusal, when, answerOf}
 use Rattle.station.specs.Sound.{countSound}
 use Rattle.table.specs.declared.stepped.Stepped.{Stepped}
 use Rattle.table.specs.Fresh.{blankTable, freshOf}

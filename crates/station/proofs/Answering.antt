@@ -5,15 +5,15 @@ use mathlib.Core.Bool.{true, not}
 use lib.Dec.{ltb, eqb}
 use borrow.Author.Tests.{ltb-true, ltb-false, not-false, eqb-true, eqb-false}
 use Rattle.rules.specs.declared.message.Message.{Message}
-use Rattle.rules.specs.Limits.{mostIntake, mostValue}
+use Rattle.ground.specs.Limits.{mostIntake, mostValue}
 use Rattle.rules.specs.Message.{noMessage}
 use Rattle.rules.specs.Report.{noReport}
-use Rattle.rules.specs.Refusals.{answerOf}
+use Rattle.ground.specs.Refusals.{answerOf}
 use Rattle.rules.specs.Stock.{amountSound}
 use Rattle.rules.specs.Rules.{fill}
 use Rattle.rules.specs.Taking.{takeOf}
-use Rattle.rules.proofs.Below.{both-hold}
-use Rattle.rules.proofs.Refusing.{passed}
+use Rattle.ground.proofs.Tests.{both-hold}
+use Rattle.ground.proofs.Refusing.{passed}
 use Rattle.station.specs.declared.station.Station.{Station}
 use Rattle.station.specs.declared.outcome.Outcome.{Outcome}
 use Rattle.station.specs.Side.{sideFor}

@@ -8,7 +8,8 @@ use Rattle.rules.specs.declared.stock.Stock.{Stock}
 use Rattle.rules.specs.declared.taking.Taken.{Taken}
 use Rattle.rules.specs.Taking.{takeOf, takeAnswer, takenOf}
 use Rattle.rules.specs.Stock.{stocked, addToAnswer, addDone, addedTo, drawFromAnswer, drawDone, drawnFrom}
-use Rattle.rules.proofs.Refusing.{answer-before, take-tells, take-done}
+use Rattle.ground.proofs.Refusing.{answer-before}
+use Rattle.rules.proofs.Refusing.{take-tells, take-done}
 use Rattle.station.specs.declared.station.Station.{Station}
 use Rattle.station.specs.Side.{sideFor}
 use Rattle.station.specs.Sound.{stationSound}

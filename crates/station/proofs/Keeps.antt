@@ -10,15 +10,15 @@ use borrow.Author.Tests.{lt-ltb, le-leb, ne-eqb, not-false}
 use Rattle.station.specs.declared.station.Station.{Station}
 use Rattle.rules.specs.declared.message.Message.{Message}
 use Rattle.station.specs.declared.outcome.Outcome.{Outcome}
-use Rattle.rules.specs.Limits.{mostStations, mostIntake, mostValue}
+use Rattle.ground.specs.Limits.{mostStations, mostIntake, mostValue}
 use Rattle.station.specs.Held.{noSlot, noToken}
 use Rattle.station.specs.Sound.{isPeer, cellsSound, countSound, stationSound, messageSound}
 use Rattle.station.specs.Outcome.{answered}
 use Rattle.rules.specs.Message.{noMessage}
 use Rattle.station.specs.Steps.{blank, putStock, messageFor, freshAnswer, addAnswer, drawAnswer, showAnswer, receiveAnswer, freshOf, addOf, drawOf, receiveOf}
-use Rattle.rules.proofs.Below.{all-from}
+use Rattle.ground.proofs.Below.{all-from}
 use Rattle.station.proofs.Parts.{station-parts, station-whole, message-parts}
-use Rattle.rules.proofs.Refusing.{passed}
+use Rattle.ground.proofs.Refusing.{passed}
 use Rattle.station.proofs.Answering.{added, shown, received}
 use Rattle.station.proofs.KeepsSide.{take-keeps}
 use Rattle.station.proofs.KeepsCells.{side-sound, put-sound}

@@ -9,11 +9,11 @@ use Rattle.rules.specs.declared.message.Message.{Message}
 use Rattle.rules.specs.declared.report.Report.{Report}
 use Rattle.rules.specs.declared.stock.Stock.{Stock}
 use Rattle.rules.specs.declared.taking.Taken.{Taken}
-use Rattle.rules.specs.Limits.{mostStations, mostIntake, mostValue}
-use Rattle.rules.specs.Answers.{done, notSound, notBelowCount, sameStation, badAmount, intakeLimit, noRecord, valueLimit, forAnother, tooFew}
+use Rattle.ground.specs.Limits.{mostStations, mostIntake, mostValue}
+use Rattle.ground.specs.Answers.{done, notSound, notBelowCount, sameStation, badAmount, intakeLimit, noRecord, valueLimit, forAnother, tooFew}
 use Rattle.rules.specs.Message.{noMessage}
 use Rattle.rules.specs.Report.{noReport}
-use Rattle.rules.specs.Refusals.{Refusal, when, answerOf}
+use Rattle.ground.specs.Refusals.{Refusal, when, answerOf}
 use Rattle.rules.specs.Stock.{amountSound}
 use Rattle.rules.specs.Rules.{fill}
 use Rattle.rules.specs.Taking.{takeOf}

@@ -12,15 +12,15 @@ use Rattle.rules.specs.declared.held.HeldToken.{HeldToken}
 use Rattle.rules.specs.declared.held.HeldToken.the-variants.{NoToken, OneToken}
 use Rattle.rules.specs.declared.message.Message.{Message}
 use Rattle.rules.specs.declared.stock.Stock.{Stock}
-use Rattle.rules.specs.Answers.{badAmount, intakeLimit, valueLimit, tooFew}
-use Rattle.rules.specs.Limits.{mostStations, mostIntake, mostValue}
-use Rattle.rules.specs.Refusals.{when, answerOf}
+use Rattle.ground.specs.Answers.{badAmount, intakeLimit, valueLimit, tooFew}
+use Rattle.ground.specs.Limits.{mostStations, mostIntake, mostValue}
+use Rattle.ground.specs.Refusals.{when, answerOf}
 use Rattle.rules.specs.Report.{noReport}
 use Rattle.rules.specs.Rules.{fill}
 use Rattle.rules.specs.Stock.{amountSound, stocked, addedTo, drawnFrom, addDone, drawDone}
 use Rattle.rules.specs.Taking.{takeOf, takenBy, takenOf, messageSmall, tokenSmall}
-use Rattle.rules.proofs.Below.{both-hold, needed}
-use Rattle.rules.proofs.Refusing.{passed}
+use Rattle.ground.proofs.Tests.{both-hold, needed}
+use Rattle.ground.proofs.Refusing.{passed}
 use Rattle.station.specs.Side.{sideFor}
 use Rattle.station.specs.Sound.{tokenSound}
 use Rattle.station.specs.Steps.{messageFor}

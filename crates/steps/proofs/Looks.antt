@@ -7,10 +7,10 @@ use lib.Dec.{ltb, eqb}
 use borrow.Author.Tests.{ltb-true, not-false}
 use Rattle.rules.specs.declared.side.Side.{Side}
 use Rattle.rules.specs.declared.taking.Taken.{Taken}
-use Rattle.rules.specs.Limits.{mostStations}
+use Rattle.ground.specs.Limits.{mostStations}
 use Rattle.rules.specs.Stock.{addedTo, drawnFrom}
 use Rattle.rules.specs.Taking.{takenOf}
-use Rattle.rules.proofs.Refusing.{passed}
+use Rattle.ground.proofs.Refusing.{passed}
 use Rattle.steps.specs.declared.looking.Looked.{Looked}
 use Rattle.steps.specs.declared.planning.Change.the-variants.{Nothing, AtSide, AtPlace}
 use Rattle.steps.specs.declared.planning.Plan.{Plan}

@@ -10,9 +10,9 @@ use lib.Dec.{ltb}
 use lib.ListN.{getD, replicate}
 use lib.Seq.{sets}
 use Rattle.rules.specs.declared.report.Report.{Report}
-use Rattle.rules.specs.Refusals.{Refusal, answerOf}
+use Rattle.ground.specs.Refusals.{Refusal, answerOf}
 use Rattle.rules.specs.Report.{noReport, rulesOf}
-use Rattle.rules.proofs.Below.{both-hold}
+use Rattle.ground.proofs.Tests.{both-hold}
 use Rattle.pool.specs.declared.places.Waiting.{Waiting}
 use Rattle.pool.specs.declared.places.Waiting.the-variants.{Empty, One}
 use Rattle.steps.specs.declared.running.Ran.{Ran}

@@ -9,8 +9,8 @@ use Rattle.rules.specs.declared.report.Report.{Report}
 use Rattle.rules.specs.declared.side.Side.{Side}
 use Rattle.rules.specs.declared.stock.Stock.{Stock}
 use Rattle.rules.specs.declared.taking.Taken.{Taken}
-use Rattle.rules.specs.Answers.{done, notBelowCount, sameStation, poolFull, noSuchPlace, emptyPlace, badLine}
-use Rattle.rules.specs.Refusals.{when, answerOf}
+use Rattle.ground.specs.Answers.{done, notBelowCount, sameStation, poolFull, noSuchPlace, emptyPlace, badLine}
+use Rattle.ground.specs.Refusals.{when, answerOf}
 use Rattle.rules.specs.Report.{noReport}
 use Rattle.rules.specs.Stock.{addedTo, drawnFrom}
 use Rattle.rules.specs.Taking.{takenOf}

@@ -17,7 +17,7 @@ use Rattle.pool.specs.declared.places.Place.{Place}
 use Rattle.table.specs.declared.table.Table.{Table}
 use Rattle.table.specs.Table.{stationAt, putStation, putPlace}
 use Rattle.table.specs.Sound.{seatSound, placeSound}
-use Rattle.rules.proofs.Stores.{stored}
+use Rattle.ground.proofs.Stores.{stored}
 use Rattle.table.proofs.Tables.{Seated, Waits, SoundTable, seated}
 
 -- in a sound table a station below the count is seated; and back: a seat, and a place with a

@@ -1,7 +1,7 @@
 -- What a step hands back.
 use Prim.Native.Nat.{ℕ, zero, suc}
 use Rattle.rules.specs.declared.report.Report.{Report}
-use Rattle.rules.specs.Answers.{done}
+use Rattle.ground.specs.Answers.{done}
 use Rattle.rules.specs.Report.{noReport}
 use Rattle.table.specs.declared.stepped.Stepped.{Stepped}
 use Rattle.table.specs.declared.table.Table.{Table}

@@ -2,13 +2,13 @@
 use Prim.Native.Nat.{ℕ, zero, suc}
 use mathlib.Core.Bool.{cond}
 use mathlib.Core.List.{List, [], _∷_}
-use Rattle.handshake.specs.Sums.{sumBelow}
+use Rattle.ground.specs.Sums.{sumBelow}
 use Rattle.rules.specs.declared.held.HeldSlot.{HeldSlot}
 use Rattle.rules.specs.declared.held.HeldSlot.the-variants.{NoSlot, OneSlot}
 use Rattle.rules.specs.declared.held.HeldToken.{HeldToken}
 use Rattle.rules.specs.declared.held.HeldToken.the-variants.{NoToken, OneToken}
-use Rattle.rules.specs.Answers.{done}
-use Rattle.rules.specs.Refusals.{Refusal, answerOf}
+use Rattle.ground.specs.Answers.{done}
+use Rattle.ground.specs.Refusals.{Refusal, answerOf}
 use Rattle.station.specs.Held.{slotFor, tokenFor}
 use Rattle.rules.specs.Rules.{agree}
 use Rattle.table.specs.declared.table.Table.{Table}

@@ -2,12 +2,12 @@
 ghost use mathlib.Core.Path.{_≡_};
 ghost use mathlib.Core.Bool.{true};
 ghost use Prim.Native.Nat.{_<_, _≤_, _*_};
-ghost use Rattle.rules.specs.Limits.{mostValue, mostStations};
+ghost use Rattle.ground.specs.Limits.{mostValue, mostStations};
 ghost use Rattle.table.specs.Sound.{tableSound};
 ghost use Rattle.table.specs.Way.{travels, wayFrom, onTheWay, atStations, wayAsked, stationsAsked};
 use crate::sound::table_is_sound;
 use crate::table::Table;
-use rules::answers;
+use ground::answers;
 use rules::held::HeldSlot;
 use rules::held::HeldToken;
 use rules::rules::clocks_agree;

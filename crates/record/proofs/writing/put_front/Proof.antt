@@ -3,7 +3,7 @@ use lib.ListN.{length-append}
 use borrow.Author.Needs.{needs}
 use Rattle.record.specs.Numbers.{big}
 use Rattle.record.specs.Layout.{field, clocks}
-use Rattle.rules.proofs.Stores.{then}
+use Rattle.ground.proofs.Stores.{then}
 use Rattle.record.proofs.Digits.{length-big}
 use Rattle.record.proofs.writing.put_front.Statement.{statement}
 use Rattle.record.proofs.writing.put_front.Tie as tie
