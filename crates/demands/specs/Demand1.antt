@@ -43,16 +43,15 @@ use Rattle.record.specs.declared.writing.Written.{Written}
 use Rattle.record.specs.Reading.{readOf}
 use Rattle.record.specs.Writing.{WritesGiven}
 use Rattle.record.specs.AtStation.{WritesFor, receiveBytesOf}
-use Rattle.quynhabet.specs.declared.told.Told.{Told}
+use Rattle.quynhabet.specs.declared.told.ToldNumbers.{ToldNumbers}
 use Rattle.quynhabet.specs.Exports.{plainTold, Makes, checkOf, Adds, Draws, Shows, Receives, Reads, WritesNumbers}
 use Rattle.pool.specs.declared.lent.Pooled.{Pooled}
-use Rattle.pool.specs.declared.lent.Told.{Told as PoolTold}
+use Rattle.ground.specs.declared.told.Told.{Told}
 use Rattle.steps.specs.declared.running.Ran.{Ran}
 use Rattle.steps.specs.declared.asked.Step.{Step}
 use Rattle.pool.specs.declared.places.Place.{Place}
 use Rattle.table.specs.declared.stepped.Stepped.{Stepped}
 use Rattle.table.specs.declared.table.Table.{Table}
-use Rattle.table.specs.declared.way.Summed.{Summed}
 use Rattle.pool.specs.Pool.{mostPlaces}
 use Rattle.table.specs.Fresh.{freshOf as freshTableOf}
 use Rattle.pool.specs.Lent.{cleared, SendsIn, LosesIn, sentValue, lostValue}
@@ -98,7 +97,7 @@ abbrev pub RefusedRan : Table → List ℕ → Ran → List ℕ → Type 0
 RefusedRan t before r after = r .answer ≢ done → (r .result ≡ 0) × (r .table ≡ t) × (after ≡ before)
 
 -- a refused sum is 0
-abbrev pub RefusedSum : Summed → Type 0
+abbrev pub RefusedSum : Told → Type 0
 RefusedSum r = r .answer ≢ done → r .result ≡ 0
 
 -- where there is no report: result 0, and what is there is what has to be there after a refusal
@@ -116,7 +115,7 @@ RefusedReading r = Refused (r .answer) (r .result) noMessage (r .message)
 abbrev pub RefusedBytes : List ℕ → Written → List ℕ → Type 0
 RefusedBytes before r after = Refused (r .answer) (r .result) before after
 
-abbrev pub RefusedPool : List Place → PoolTold → List Place → Type 0
+abbrev pub RefusedPool : List Place → Told → List Place → Type 0
 RefusedPool before r after = Refused (r .answer) (r .result) before after
 
 abbrev pub RefusedPooled : List Place → Pooled → Type 0
@@ -124,11 +123,11 @@ RefusedPooled before r = RefusedPool before (r .told) (r .pool)
 
 -- where all that crosses is numbers: result 0, an empty report, and what was lent to be changed is
 -- as it was
-abbrev pub RefusedNumbers : List ℕ → Told → List ℕ → Type 0
+abbrev pub RefusedNumbers : List ℕ → ToldNumbers → List ℕ → Type 0
 RefusedNumbers before r after = r .answer ≢ done → (r ≡ plainTold (r .answer) 0) × (after ≡ before)
 
 -- where nothing is lent to be changed: result 0, and an empty report
-abbrev pub RefusedTold : Told → Type 0
+abbrev pub RefusedTold : ToldNumbers → Type 0
 RefusedTold r = r .answer ≢ done → r ≡ plainTold (r .answer) 0
 
 -- a refused script hands back no run
@@ -170,27 +169,27 @@ pub record Demand1 : Type 0 where
   -- 1, 9, 2, 11, 10: the station is as it was
   pub record·receive-bytes : (s : Station) (bytes : List ℕ) → RefusedAs s (receiveBytesOf s bytes)
   -- 1, 2: the station's numbers are as they were
-  pub quynhabet·qb-station-fresh : (number count : ℕ) (station : List ℕ) (r : Told) (station′ : List ℕ)
+  pub quynhabet·qb-station-fresh : (number count : ℕ) (station : List ℕ) (r : ToldNumbers) (station′ : List ℕ)
       → Makes number count station r station′ → RefusedNumbers station r station′
   -- 1: nothing is lent to be changed
   pub quynhabet·qb-station-check : (station : List ℕ) → RefusedTold (checkOf station)
   -- 1, 4, 5, 10: the station's numbers are as they were
-  pub quynhabet·qb-station-add : (station : List ℕ) (amount : ℕ) (r : Told) (station′ : List ℕ)
+  pub quynhabet·qb-station-add : (station : List ℕ) (amount : ℕ) (r : ToldNumbers) (station′ : List ℕ)
       → Adds station amount r station′ → RefusedNumbers station r station′
   -- 1, 4, 15: the station's numbers are as they were
-  pub quynhabet·qb-station-draw : (station : List ℕ) (amount : ℕ) (r : Told) (station′ : List ℕ)
+  pub quynhabet·qb-station-draw : (station : List ℕ) (amount : ℕ) (r : ToldNumbers) (station′ : List ℕ)
       → Draws station amount r station′ → RefusedNumbers station r station′
   -- 1, 2, 3, 14: every byte of the buffer is as it was
-  pub quynhabet·qb-station-write : (station : List ℕ) (to : ℕ) (out : List ℕ) (r : Told) (out′ : List ℕ)
+  pub quynhabet·qb-station-write : (station : List ℕ) (to : ℕ) (out : List ℕ) (r : ToldNumbers) (out′ : List ℕ)
       → Shows station to out r out′ → RefusedNumbers out r out′
   -- 1, 9, 2, 11, 10: the station's numbers are as they were
-  pub quynhabet·qb-station-receive : (station bytes : List ℕ) (r : Told) (station′ : List ℕ)
+  pub quynhabet·qb-station-receive : (station bytes : List ℕ) (r : ToldNumbers) (station′ : List ℕ)
       → Receives station bytes r station′ → RefusedNumbers station r station′
   -- 9: the message's numbers are as they were
-  pub quynhabet·qb-record-read : (bytes message : List ℕ) (r : Told) (message′ : List ℕ)
+  pub quynhabet·qb-record-read : (bytes message : List ℕ) (r : ToldNumbers) (message′ : List ℕ)
       → Reads bytes message r message′ → RefusedNumbers message r message′
   -- 9, 14: every byte of the buffer is as it was
-  pub quynhabet·qb-record-write : (message out : List ℕ) (r : Told) (out′ : List ℕ) → WritesNumbers message out r out′ → RefusedNumbers out r out′
+  pub quynhabet·qb-record-write : (message out : List ℕ) (r : ToldNumbers) (out′ : List ℕ) → WritesNumbers message out r out′ → RefusedNumbers out r out′
   -- 1: a refused making is no table
   pub table·fresh-table : (count : ℕ) → RefusedAsTable noTable (freshTableOf count)
   -- 1, then those of an add, a draw, a send, a delivery or a loss: the table is as it was
@@ -202,10 +201,10 @@ pub record Demand1 : Type 0 where
   -- 1: the sum is 0
   pub table·at-stations : (t : Table) → RefusedSum (stationsAsked t)
   -- 1, 6: every place of the pool is as it was
-  pub pool·send-in : (pool : List Place) (m : Message) (r : PoolTold) (pool′ : List Place)
+  pub pool·send-in : (pool : List Place) (m : Message) (r : Told) (pool′ : List Place)
       → SendsIn pool m r pool′ → RefusedPool pool r pool′
   -- 1, 7, 8: every place of the pool is as it was
-  pub pool·lose-in : (pool : List Place) (p : ℕ) (r : PoolTold) (pool′ : List Place)
+  pub pool·lose-in : (pool : List Place) (p : ℕ) (r : Told) (pool′ : List Place)
       → LosesIn pool p r pool′ → RefusedPool pool r pool′
   -- 6: the pool by value, as it was
   pub pool·send-value : (pool : List Place) (m : Message) → RefusedPooled pool (sentValue pool m)

@@ -1,6 +1,8 @@
 pub mod Limits
 pub mod Answers
 pub mod Refusals
+pub mod Choice
+pub mod Told
 pub mod Clocks
 pub mod Half
 pub mod Below

@@ -5,7 +5,7 @@ use crate::messages::message_numbers;
 use crate::stations::numbers_of;
 use crate::stations::station_fits;
 use crate::stations::station_of;
-use crate::told::Told;
+use crate::told::ToldNumbers;
 use crate::told::plain_told;
 use crate::told::told_of;
 use ground::answers::DONE;
@@ -13,12 +13,12 @@ use ground::answers::NOT_SOUND;
 use station::outcome::Outcome;
 
 pub(crate) struct Moved {
-    pub told: Told,
+    pub told: ToldNumbers,
     pub numbers: [u64; 134],
 }
 
 pub(crate) struct Taken {
-    pub told: Told,
+    pub told: ToldNumbers,
     pub numbers: [u64; 13],
 }
 

@@ -1,4 +1,3 @@
-pub mod Plans
 pub mod Flags
 pub mod Held
 pub mod Rests

@@ -8,15 +8,10 @@ ghost use Rattle.table.specs.Way.{travels, wayFrom, onTheWay, atStations
 use crate::sound::table_is_sound;
 use crate::table::Table;
 use ground::answers;
+use ground::told::Told;
 use rules::held::HeldSlot;
 use rules::held::HeldToken;
 use rules::rules::clocks_agree;
-
-// The numbered answer and the sum.
-pub struct Summed {
-    pub answer: u8,
-    pub result: u64,
-}
 
 // What of a token is on the way to a slot.
 fn travels_to(token: HeldToken, slot: HeldSlot) -> u64
@@ -85,32 +80,32 @@ fn values_of_all(t: Table) -> u64
 }
 
 // The sum on the way: refused by 1.
-pub fn on_the_way(t: Table) -> Summed
+pub fn on_the_way(t: Table) -> Told
     ensures { λ r. ⌜ r ≡ wayAsked t ⌝ }
 {
     if !table_is_sound(t) {
-        return Summed {
+        return Told {
             answer: answers::NOT_SOUND,
             result: 0,
         };
     }
-    Summed {
+    Told {
         answer: answers::DONE,
         result: way_of_all(t),
     }
 }
 
 // The passes at all stations: refused by 1.
-pub fn at_stations(t: Table) -> Summed
+pub fn at_stations(t: Table) -> Told
     ensures { λ r. ⌜ r ≡ stationsAsked t ⌝ }
 {
     if !table_is_sound(t) {
-        return Summed {
+        return Told {
             answer: answers::NOT_SOUND,
             result: 0,
         };
     }
-    Summed {
+    Told {
         answer: answers::DONE,
         result: values_of_all(t),
     }
