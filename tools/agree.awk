@@ -6,8 +6,8 @@
 
 BEGIN {
     kinds = split("answer limit rule place size version", kind, " ")
-    homes("code", "crates/rules/src/answers.rt", "answer")
-    homes("code", "crates/rules/src/limits.rt", "limit")
+    homes("code", "crates/ground/src/answers.rt", "answer")
+    homes("code", "crates/ground/src/limits.rt", "limit")
     homes("header", "include/quynhabet.h", "answer limit rule place size version")
     homes("Rust", "rust/src/refusal.rs", "answer")
     homes("Rust", "rust/src/limits.rs", "limit")
@@ -71,7 +71,7 @@ FNR == 1 { into = declared = "" }
 
 # ---- the definitions
 
-FILENAME ~ /rules\/specs\/(Answers|Limits)\.antt$/ {
+FILENAME ~ /ground\/specs\/(Answers|Limits)\.antt$/ {
     if (declared != "") reads_number(FILENAME ~ /Answers/ ? "answer" : "limit")
     else if ($0 ~ /^abbrev pub [a-zA-Z]+ : ℕ$/) declared = $3
     else if ($0 !~ /^(--.*|use .*)?$/) unread()
@@ -188,7 +188,7 @@ function width(text,    n, i, part, sum, inner) {
 
 # ---- the Rattle code
 
-FILENAME ~ /rules\/src\/(answers|limits)\.rt$/ {
+FILENAME ~ /ground\/src\/(answers|limits)\.rt$/ {
     if (/^pub const [A-Z_]+: (u8|u32|u64|usize) = [0-9_]+;$/) {
         rest = $3
         sub(/:/, "", rest)

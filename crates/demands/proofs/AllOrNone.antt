@@ -8,9 +8,9 @@ use native.Mathlib.Omega.{arith}
 use lib.Dec.{ltb}
 use lib.ListN.{length}
 use borrow.Author.Tests.{ltb-true, ltb-false}
-use Rattle.rules.specs.Limits.{mostStations}
+use Rattle.ground.specs.Limits.{mostStations}
 use Rattle.rules.specs.Stock.{stockSound, amountSound, stocked, drawFromAnswer, drawDone, drawnFrom}
-use Rattle.rules.proofs.Refusing.{passed}
+use Rattle.ground.proofs.Refusing.{passed}
 use Rattle.station.specs.declared.station.Station.{Station}
 use Rattle.station.specs.Sound.{stationSound}
 use Rattle.station.specs.Steps.{drawOf}

@@ -4,7 +4,7 @@ use Prim.Native.Nat.{ℕ}
 use mathlib.Core.Path.{_≡_, refl}
 use mathlib.Core.List.{[], _∷_, _++_, map}
 use lib.Dec.{T}
-use Rattle.rules.specs.Below.{allBelow}
+use Rattle.ground.specs.Below.{allBelow}
 use Rattle.station.specs.Sound.{stationSound, messageSound}
 use Rattle.rules.specs.Taking.{takeOf}
 use Rattle.station.specs.Steps.{freshOf, addOf, drawOf, showOf, receiveOf}

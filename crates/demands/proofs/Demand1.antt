@@ -13,24 +13,26 @@ use Rattle.rules.specs.declared.stock.Stock.{Stock}
 use Rattle.rules.specs.declared.taking.Taken.{Taken}
 use Rattle.station.specs.declared.outcome.Outcome.{Outcome}
 use Rattle.station.specs.declared.station.Station.{Station}
-use Rattle.rules.specs.Answers.{done, notSound, noRecord}
-use Rattle.rules.specs.Refusals.{answerOf}
+use Rattle.ground.specs.Answers.{done, notSound, noRecord}
+use Rattle.ground.specs.Refusals.{answerOf}
+use Rattle.ground.specs.Choice.{ifDone}
+use Rattle.ground.specs.Told.{toldWith}
+use Rattle.ground.proofs.Choices.{when-refused}
 use Rattle.rules.specs.Report.{noReport}
 use Rattle.rules.specs.Stock.{stocked, addToAnswer, addedTo, drawFromAnswer, drawnFrom}
-use Rattle.rules.specs.Taking.{takeOf, takeAnswer, takenBy, takenOf}
+use Rattle.rules.specs.Taking.{takeOf, takeAnswer, refusedTaking, takenOf}
 use Rattle.station.specs.Outcome.{answered}
 use Rattle.rules.specs.Message.{noMessage}
-use Rattle.station.specs.Steps.{freshAnswer, addAnswer, drawAnswer, showAnswer, showing, receiveAnswer, messageFor, freshOf, addOf, drawOf, showOf, receiveOf}
+use Rattle.station.specs.Steps.{freshAnswer, addAnswer, drawAnswer, showAnswer, receiveAnswer, messageFor, freshOf, addOf, drawOf, showOf, receiveOf}
 use Rattle.record.specs.declared.reading.Reading.{Reading}
-use Rattle.record.specs.declared.writing.Written.{Written}
-use Rattle.record.specs.Reading.{isRecord, noReading, readOf}
+use Rattle.ground.specs.declared.told.Told.{Told}
+use Rattle.record.specs.Reading.{walked, noReading, readOf}
 use Rattle.record.specs.Dateless.{recordOf}
 use Rattle.record.specs.Writing.{Writes, writeAnswer}
 use Rattle.record.specs.AtStation.{writeForAnswer, receiveBytesOf}
-use Rattle.quynhabet.specs.declared.told.Told.{Told}
+use Rattle.quynhabet.specs.declared.told.ToldNumbers.{ToldNumbers}
 use Rattle.quynhabet.specs.Exports.{Given, Gives, plainTold, toldOf, outcomeBy, refusedBy, writtenBy, readingBy, checkOf, freshBy, addBy, drawBy, showBy, receiveBy, readBy, writeBy}
 use Rattle.quynhabet.specs.Layout.{numbersOf, stationOf, stationFits, messageNumbers, messageOf, messageFits}
-use Rattle.quynhabet.proofs.Giving.{kept-refused}
 use Rattle.steps.specs.declared.running.Ran.{Ran}
 use Rattle.steps.specs.declared.asked.Step.{Step}
 use Rattle.steps.specs.declared.asked.Step.the-variants.{Add, Draw, Send, Deliver, Lose}
@@ -41,17 +43,17 @@ use Rattle.table.specs.declared.stepped.Stepped.{Stepped}
 use Rattle.table.specs.declared.table.Table.{Table}
 use Rattle.table.specs.Sound.{tableSound}
 use Rattle.table.specs.Fresh.{freshRefusals, seatsTo, freshOf as freshTableOf}
-use Rattle.pool.specs.Lent.{told, left, sendInAnswer, loseInAnswer}
+use Rattle.pool.specs.Lent.{sendInAnswer, loseInAnswer}
 use Rattle.steps.specs.Running.{ranOf, toldOf as toldByRun}
 use Rattle.table.specs.Table.{waitingAt}
 use Rattle.table.specs.Stepped.{answeredStep}
 use Rattle.steps.specs.Steps.{delivered, stepRefusals, stepDone, stepOf}
-use Rattle.table.specs.Way.{sumRefusals, summed, onTheWay, atStations}
+use Rattle.table.specs.Way.{sumRefusals, onTheWay, atStations}
 use Rattle.script.proofs.Refused.{answer-refused, fill-refused, start-refused}
 use Rattle.demands.specs.Demand1.{noStation, noTable, RefusedSide, RefusedStock, RefusedAs, RefusedAsTable, RefusedRan, RefusedSum, Refused, RefusedNumbers, RefusedTold, Demand1}
 
 -- a side and a stock: an answer that is not 0 makes a refusal of anything done
-at-side : (n : ℕ) (x : Side) (d : Taken) → d .answer ≡ done → RefusedSide x (takenBy n x d)
+at-side : (n : ℕ) (x : Side) (d : Taken) → d .answer ≡ done → RefusedSide x (ifDone n d (refusedTaking n x))
 at-side zero x d e f = absurd (f e)
 at-side (suc n) x d e f = (refl, refl, refl)
 
@@ -64,16 +66,15 @@ at-station : (n : ℕ) (s : Station) (d : Outcome) → d .answer ≡ done → Re
 at-station zero s d e f = absurd (f e)
 at-station (suc n) s d e f = (refl, refl, refl)
 
-no-message : (n : ℕ) (m : Message) → showing n m .answer ≢ done → showing n m .message ≡ noMessage
-no-message zero m f = absurd (f refl)
-no-message (suc n) m f = refl
+no-message : (n : ℕ) (m : Message) → n ≢ done → ifDone n m noMessage ≡ noMessage
+no-message n m f = sym (when-refused n m noMessage f)
 
 -- a record
-no-record : (t : Bool) (got : Reading) → got .answer ≡ done → let r = cond t got noReading in Refused (r .answer) (r .result) noMessage (r .message)
-no-record true got e f = absurd (f e)
-no-record false got e f = (refl, refl)
+no-record : (n : ℕ) (got : Reading) → got .answer ≡ done → let r = ifDone n got noReading in Refused (r .answer) (r .result) noMessage (r .message)
+no-record zero got e f = absurd (f e)
+no-record (suc n) got e f = (refl, refl)
 
-writes : (answer : ℕ) (bytes before : List ℕ) (r : Written) (after : List ℕ) → Writes answer bytes before r after → Refused (r .answer) (r .result) before after
+writes : (answer : ℕ) (bytes before : List ℕ) (r : Told) (after : List ℕ) → Writes answer bytes before r after → Refused (r .answer) (r .result) before after
 writes zero bytes before r after w f = absurd (f (rw (w .told)))
 writes (suc n) bytes before r after w f = (rw (w .told), w .buffer)
 
@@ -81,7 +82,7 @@ writes (suc n) bytes before r after w f = (rw (w .told), w .buffer)
 abbrev RefusedGiven : List ℕ → Given → Type 0
 RefusedGiven before g = RefusedNumbers before (g .told) (g .lent)
 
-gives-refused : (g : Given) (before : List ℕ) → RefusedGiven before g → (r : Told) (after : List ℕ) → Gives g r after → RefusedNumbers before r after
+gives-refused : (g : Given) (before : List ℕ) → RefusedGiven before g → (r : ToldNumbers) (after : List ℕ) → Gives g r after → RefusedNumbers before r after
 gives-refused g before h r after p = rw (p .told, p .lent) h
 
 -- what is refused is told with result 0 and an empty report, and what was lent is kept
@@ -89,7 +90,7 @@ told-refused : (n : ℕ) {result : ℕ} {report : Report} → result ≡ 0 → r
 told-refused n e f = rw (e, f)
 
 in-numbers : (s : Station) (o : Outcome) (before : List ℕ) → RefusedAs s o → RefusedGiven before (outcomeBy o before)
-in-numbers s o before h f = let r = h f in (told-refused (o .answer) (r .0) (r .1), sym (kept-refused (o .answer) before (numbersOf (o .station)) f))
+in-numbers s o before h f = let r = h f in (told-refused (o .answer) (r .0) (r .1), sym (when-refused (o .answer) (numbersOf (o .station)) before f))
 
 on-numbers : (fits : Bool) (s : Station) (o : Outcome) (before : List ℕ) → RefusedAs s o
     → RefusedGiven before (cond fits (outcomeBy o before) (refusedBy notSound before))
@@ -102,7 +103,7 @@ into-bytes true unfit (suc n) bytes before f = (refl, refl)
 into-bytes false unfit answer bytes before f = (refl, refl)
 
 from-bytes : (r : Reading) (before : List ℕ) → Refused (r .answer) (r .result) noMessage (r .message) → RefusedGiven before (readingBy r before)
-from-bytes r before h f = (told-refused (r .answer) (h f .0) refl, sym (kept-refused (r .answer) before (messageNumbers (r .message)) f))
+from-bytes r before h f = (told-refused (r .answer) (h f .0) refl, sym (when-refused (r .answer) (messageNumbers (r .message)) before f))
 
 -- a table: every step that is done answers 0
 at-table : (n : ℕ) (t : Table) (d : Stepped) → d .answer ≡ done → RefusedAsTable t (answeredStep n t d)
@@ -133,21 +134,19 @@ no-run : (sound : Bool) (t : Table) (d : Ran) (before later : List ℕ) → d .a
 no-run true t d before later e f = absurd (f e)
 no-run false t d before later e f = (refl, refl, refl)
 
-no-sum : (n sum : ℕ) → RefusedSum (summed n sum)
-no-sum zero sum f = absurd (f refl)
-no-sum (suc n) sum f = refl
+no-sum : (n sum : ℕ) → RefusedSum (toldWith n sum)
+no-sum n sum f = sym (when-refused n sum 0 f)
 
 -- a lent pool
-in-pool : (n result : ℕ) (pool changed : List Place) → let r = told n result in Refused (r .answer) (r .result) pool (left n pool changed)
-in-pool zero result pool changed f = absurd (f refl)
-in-pool (suc n) result pool changed f = (refl, refl)
+in-pool : (n result : ℕ) (pool changed : List Place) → let r = toldWith n result in Refused (r .answer) (r .result) pool (ifDone n changed pool)
+in-pool n result pool changed f = (sym (when-refused n result 0 f), sym (when-refused n changed pool f))
 
 checked : (station : List ℕ) → RefusedTold (checkOf station)
 unfolding checkOf
 checked station f = refl
 
 pub demand1 : Demand1
-unfolding takeOf takenOf addedTo drawnFrom freshOf addOf drawOf receiveOf receiveBytesOf showOf readAt ranOf toldByRun seatsTo freshBy addBy drawBy showBy receiveBy readBy writeBy
+unfolding takeOf takenOf addedTo drawnFrom freshOf addOf drawOf receiveOf receiveBytesOf showOf readOf ranOf toldByRun seatsTo freshBy addBy drawBy showBy receiveBy readBy writeBy
 demand1 =
     record {
       rules·take = λ x m. at-side (takeAnswer x m) x _ refl;
@@ -158,7 +157,7 @@ demand1 =
       station·draw = λ s amount. at-station (drawAnswer s amount) s _ refl;
       station·message-for = λ s to. no-message (showAnswer s to) (messageFor s to);
       station·receive = λ s m. at-station (receiveAnswer s m) s _ refl;
-      record·read = λ bytes. no-record (isRecord bytes) _ refl;
+      record·read = λ bytes. no-record (walked bytes .answer) _ refl;
       record·write = λ m buffer. writes _ _ buffer;
       record·write-message = λ s to buffer. writes _ _ buffer;
       record·receive-bytes = λ s bytes. at-station (receiveAnswer s (readOf bytes .message)) s _ refl;
@@ -184,7 +183,7 @@ demand1 =
           let s = stationOf station in
           gives-refused _ station
           (on-numbers (stationFits station) s (receiveBytesOf s bytes) station (at-station (receiveAnswer s (readOf bytes .message)) s _ refl));
-      quynhabet·qb-record-read = λ bytes message. gives-refused _ message (from-bytes (readOf bytes) message (no-record (isRecord bytes) _ refl));
+      quynhabet·qb-record-read = λ bytes message. gives-refused _ message (from-bytes (readOf bytes) message (no-record (walked bytes .answer) _ refl));
       quynhabet·qb-record-write =
           λ message out.
           let m = messageOf message in

@@ -1,8 +1,8 @@
 -- Every answer of the list is 0. Assumes nothing.
 use mathlib.Core.Path.{_≡_, refl}
 use lib.ListN.{length, replicate}
-use Rattle.handshake.specs.Sums.{sumBelow}
-use Rattle.rules.specs.Below.{allBelow}
+use Rattle.ground.specs.Sums.{sumBelow}
+use Rattle.ground.specs.Below.{allBelow}
 use Rattle.station.specs.Sound.{stationSound, messageSound}
 use Rattle.rules.specs.Stock.{addedTo, drawnFrom}
 use Rattle.rules.specs.Taking.{takeOf, takenOf}
@@ -13,7 +13,7 @@ use Rattle.record.specs.Walk.{look, taken, step, ended, walkFrom}
 use Rattle.record.specs.Dateless.{recordOf}
 use Rattle.record.specs.Reading.{walked, isRecord, readOf}
 use Rattle.record.specs.AtStation.{receiveBytesOf}
-use Rattle.pool.specs.Pool.{firstFrom}
+use Rattle.ground.specs.First.{firstFrom}
 use Rattle.table.specs.Sound.{tableSound}
 use Rattle.table.specs.Fresh.{seatsTo, freshOf}
 use Rattle.steps.specs.Running.{askedIn, leftBy, ranOf}

@@ -1,28 +1,29 @@
 -- The lists of refusals have the printed orders, whatever they are asked of; and each answer is 0
 -- or a number of its list. Assumes nothing.
-use Prim.Native.Nat.{ℕ, zero, suc, _<_}
+use Prim.Native.Nat.{ℕ, _<_}
 use mathlib.Core.Path.{_≡_, refl, ap, sym, _∙_}
 use mathlib.Core.Bool.{Bool, true, false, cond, not}
 use mathlib.Core.List.{List, [], _∷_, map, List·Memᴰ·head, List·Memᴰ·tail}
 use lib.ListN.{length}
 use Rattle.rules.specs.declared.message.Message.{Message}
 use Rattle.rules.specs.declared.side.Side.{Side}
-use Rattle.rules.specs.Answers.{notSound, noRecord}
-use Rattle.rules.specs.Limits.{mostStations}
-use Rattle.rules.specs.Refusals.{Refusal, answerOf, numbersIn}
+use Rattle.ground.specs.Answers.{notSound, noRecord}
+use Rattle.ground.specs.Limits.{mostStations}
+use Rattle.ground.specs.Refusals.{Refusal, answerOf, numbersIn}
 use Rattle.rules.specs.Stock.{addToRefusals, drawFromRefusals}
 use Rattle.rules.specs.Taking.{takeRefusals}
-use Rattle.rules.proofs.Refusing.{answer-among, add-to-tells, draw-from-tells, take-tells}
+use Rattle.ground.proofs.Refusing.{answer-among}
+use Rattle.ground.proofs.Choices.{answer-told}
+use Rattle.rules.proofs.Refusing.{add-to-tells, draw-from-tells, take-tells}
 use Rattle.station.specs.declared.station.Station.{Station}
 use Rattle.station.specs.Steps.{freshRefusals, addRefusals, drawRefusals, showRefusals, receiveRefusals, receiveOf}
 use Rattle.station.proofs.Answering.{fresh-tells, add-tells, draw-tells, show-tells, receive-tells}
-use Rattle.record.specs.declared.writing.Written.{Written}
+use Rattle.ground.specs.declared.told.Told.{Told}
 use Rattle.record.specs.Reading.{readRefusals}
 use Rattle.record.specs.Writing.{Writes, writeRefusals}
 use Rattle.record.specs.AtStation.{writeForRefusals, receiveBytesRefusals}
 use Rattle.record.proofs.Receiving.{read-tells, receive-bytes-tells}
-use Rattle.record.proofs.Showing.{written-tells}
-use Rattle.quynhabet.specs.declared.told.Told.{Told}
+use Rattle.quynhabet.specs.declared.told.ToldNumbers.{ToldNumbers}
 use Rattle.quynhabet.specs.Exports.{Given, Gives, refusedBy, checkRefusals, checkOf, freshBy, addBy, drawBy, showBy, receiveBy, readBy, writeBy}
 use Rattle.quynhabet.specs.Layout.{stationOf, stationFits, messageOf, messageFits}
 use Rattle.pool.specs.declared.places.Place.{Place}
@@ -33,14 +34,13 @@ use Rattle.steps.specs.declared.asked.Step.the-variants.{Add, Draw, Send, Deliv
 use Rattle.table.specs.declared.stepped.Stepped.{Stepped}
 use Rattle.table.specs.declared.table.Table.{Table}
 use Rattle.table.specs.Fresh.{freshRefusals as freshTableRefusals, freshOf as freshTableOf}
-use Rattle.pool.specs.Lent.{told, sendInRefusals, loseInRefusals}
+use Rattle.pool.specs.Lent.{sendInRefusals, loseInRefusals}
 use Rattle.steps.specs.Running.{ranOf}
 use Rattle.table.specs.Sound.{tableSound}
-use Rattle.table.specs.Stepped.{answeredStep}
 use Rattle.steps.specs.Steps.{stepRefusals, stepOf}
 use Rattle.pool.specs.Pool.{mostPlaces}
 use Rattle.table.specs.Table.{stationAt, waitingAt}
-use Rattle.table.specs.Way.{sumRefusals, summed}
+use Rattle.table.specs.Way.{sumRefusals}
 use Rattle.steps.proofs.Ran.{step-answers}
 use Rattle.steps.proofs.Same.{deliver-same}
 use Rattle.script.specs.declared.starting.Put.{Put}
@@ -66,24 +66,12 @@ by-step : (t : Table) (step : Step) → OneOf (stepOf t step .answer) (numbersIn
 by-step t step = by-list (stepRefusals t step) (step-answers t step)
 
 -- what is told is the answer that was found
-fresh-table-by : (n : ℕ) (t : Table) (d : Stepped) → d .answer ≡ 0 → answeredStep n t d .answer ≡ n
-fresh-table-by zero t d e = e
-fresh-table-by (suc n) t d e = refl
-
 fresh-table-tells : (count : ℕ) → freshTableOf count .answer ≡ answerOf (freshTableRefusals count)
 unfolding freshTableOf
-fresh-table-tells count = fresh-table-by (answerOf (freshTableRefusals count)) _ _ refl
+fresh-table-tells count = answer-told (λ (x : Stepped). x .answer) (answerOf (freshTableRefusals count)) _ _ refl refl
 
-sum-tells : (n sum : ℕ) → summed n sum .answer ≡ n
-sum-tells zero sum = refl
-sum-tells (suc n) sum = refl
-
-pool-tells : (n result : ℕ) → told n result .answer ≡ n
-pool-tells zero result = refl
-pool-tells (suc n) result = refl
-
-write-tells : (n : ℕ) (bytes before : List ℕ) (r : Written) (after : List ℕ) → Writes n bytes before r after → r .answer ≡ n
-write-tells n bytes before r after w = ap (λ (r : Written). r .answer) (w .told) ∙ written-tells n bytes
+write-tells : (n : ℕ) (bytes before : List ℕ) (r : Told) (after : List ℕ) → Writes n bytes before r after → r .answer ≡ n
+write-tells n bytes before r after w = ap (λ (r : Told). r .answer) (w .told)
 
 -- a delivery on any table
 pub delivery-answers : (t : Table) (p : ℕ) → OneOf (stepOf t (Deliver p) .answer) (1 ∷ 7 ∷ 8 ∷ 10 ∷ [])
@@ -109,7 +97,7 @@ fits-or : (fits : Bool) (g : Given) (n : ℕ) (before : List ℕ) {ns : List ℕ
 fits-or true g n before m = m
 fits-or false g n before m = List·Memᴰ·tail (List·Memᴰ·head refl)
 
-given-answer : (g : Given) {ns : List ℕ} → OneOf (g .told .answer) ns → (r : Told) (after : List ℕ) → Gives g r after → OneOf (r .answer) ns
+given-answer : (g : Given) {ns : List ℕ} → OneOf (g .told .answer) ns → (r : ToldNumbers) (after : List ℕ) → Gives g r after → OneOf (r .answer) ns
 given-answer g m r after p = rw (p .told) m
 
 pub answers : Answers
@@ -123,10 +111,10 @@ answers =
       lose-step = λ t p. by-step t (Lose p);
       run = λ t codes told r told′ p. by-list (sumRefusals t) (ap (λ (r : Ran). r .answer) (p .ran) ∙ run-tells t codes told);
       fresh-table = λ count. by-list (freshTableRefusals count) (fresh-table-tells count);
-      on-the-way = λ t. by-list (sumRefusals t) (sum-tells (answerOf (sumRefusals t)) _);
-      at-stations = λ t. by-list (sumRefusals t) (sum-tells (answerOf (sumRefusals t)) _);
-      send-in = λ pool. by-list (sendInRefusals pool) (pool-tells (answerOf (sendInRefusals pool)) _);
-      lose-in = λ pool p. by-list (loseInRefusals pool p) (pool-tells (answerOf (loseInRefusals pool p)) _);
+      on-the-way = λ t. by-list (sumRefusals t) refl;
+      at-stations = λ t. by-list (sumRefusals t) refl;
+      send-in = λ pool. by-list (sendInRefusals pool) refl;
+      lose-in = λ pool p. by-list (loseInRefusals pool p) refl;
       fresh = λ number count. by-list (freshRefusals number count) (fresh-tells number count);
       add = λ s amount. by-list (addRefusals s amount) (add-tells s amount);
       draw = λ s amount. by-list (drawRefusals s amount) (draw-tells s amount);
@@ -152,7 +140,7 @@ answers =
       qb-station-write =
           λ station to out.
           let rs = writeForRefusals (stationOf station) to (length out) in
-          given-answer (showBy station to out) (fits-or (stationFits station) _ notSound out (by-list rs (written-tells (answerOf rs) _)));
+          given-answer (showBy station to out) (fits-or (stationFits station) _ notSound out (by-list rs refl));
       qb-station-receive =
           λ station bytes.
           let s = stationOf station in
@@ -162,7 +150,7 @@ answers =
       qb-record-write =
           λ message out.
           let rs = writeRefusals (messageOf message) (length out) in
-          given-answer (writeBy message out) (fits-or (messageFits message) _ noRecord out (by-list rs (written-tells (answerOf rs) _)));
+          given-answer (writeBy message out) (fits-or (messageFits message) _ noRecord out (by-list rs refl));
       start = λ script. by-list (startRefusals script) (start-tells script);
       put-answer = λ answer out r out′ p. by-list (putRefusals out) (ap (λ (r : Put). r .answer) (p .put));
       fill = λ script run out r out′ p. rw (p .filled) (by-list (fillRefusals run (length out)) (fill-tells script run (length out)));

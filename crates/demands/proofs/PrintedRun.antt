@@ -6,7 +6,7 @@ use mathlib.Core.Path.{_≡_, refl, ap, sym, _∙_}
 use mathlib.Core.List.{List, [], _∷_, _++_, append-assoc}
 use borrow.Author.Tests.{le-ltb}
 use lib.ListN.{length}
-use Rattle.rules.specs.Answers.{badLine}
+use Rattle.ground.specs.Answers.{badLine}
 use Rattle.steps.specs.declared.asked.Asked.{Asked}
 use Rattle.steps.specs.declared.asked.Asked.the-variants.{NoStep, OneStep}
 use Rattle.table.specs.declared.table.Table.{Table}

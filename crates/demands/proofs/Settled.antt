@@ -7,7 +7,9 @@ use mathlib.Core.List.{List}
 use lib.ListN.{length}
 use lib.Seq.{sets}
 use denote.Triple.Clauses.{Ended}
-use Rattle.record.specs.Writing.{Writes, written, left}
+use Rattle.ground.specs.Told.{toldWith}
+use Rattle.ground.specs.Choice.{ifDone}
+use Rattle.record.specs.Writing.{inFront, Writes}
 use Rattle.quynhabet.specs.Exports.{Given, Gives}
 use Rattle.table.specs.declared.table.Table.{Table}
 use Rattle.steps.specs.Running.{ranOf, toldOf, Runs}
@@ -35,7 +37,7 @@ both d e x y p q = pair x y (same d _ _ (p .0) (q .0)) (same e _ _ (p .1) (q .1)
 
 writing : (answer : ℕ) (bytes before : List ℕ) (x y : _ × List ℕ) → Writes answer bytes before (x .0) (x .1) → Writes answer bytes before (y .0) (y .1) → x ≡ y
 writing answer bytes before x y p q =
-    pair x y (same (written answer bytes) _ _ (p .told) (q .told)) (same (left answer bytes before) _ _ (p .buffer) (q .buffer))
+    pair x y (same (toldWith answer (length bytes)) _ _ (p .told) (q .told)) (same (ifDone answer (inFront bytes before) before) _ _ (p .buffer) (q .buffer))
 
 giving : (g : Given) (x y : _ × List ℕ) → Gives g (x .0) (x .1) → Gives g (y .0) (y .1) → x ≡ y
 giving g x y p q = pair x y (same (g .told) _ _ (p .told) (q .told)) (same (g .lent) _ _ (p .lent) (q .lent))
@@ -57,14 +59,21 @@ filling script run out x y p q =
 pub settled : Settled
 settled =
     record {
+      ground·SourceClock·in-range = λ self. given refl;
+      ground·SourceClock·is-above = λ self other. given refl;
+      ground·SourceClock·equals = λ self other. given refl;
+      ground·SourceClock·before-end = λ self. given refl;
+      ground·SourceClock·next = λ self. given refl;
+      ground·DestinationClock·in-range = λ self. given refl;
+      ground·DestinationClock·is-above = λ self other. given refl;
+      ground·DestinationClock·equals = λ self other. given refl;
+      ground·DestinationClock·before-end = λ self. given refl;
+      ground·DestinationClock·next = λ self. given refl;
+      ground·half = λ d. given refl;
       rules·take = λ x m. given refl;
       rules·add-to = λ value intake amount. given refl;
       rules·draw-from = λ value intake amount. given refl;
       rules·clocks-agree = λ t l. given refl;
-      rules·SourceClock·in-range = λ self. given refl;
-      rules·SourceClock·is-above = λ self other. given refl;
-      rules·DestinationClock·in-range = λ self. given refl;
-      rules·DestinationClock·is-above = λ self other. given refl;
       rules·no-message = given refl;
       rules·no-report = given refl;
       rules·rules-of = λ report. given refl;
@@ -75,6 +84,8 @@ settled =
       station·receive = λ s m. given refl;
       station·count-is-sound = λ count. given refl;
       station·station-is-sound = λ s. given refl;
+      station·slot-is-sound = λ held clock. given refl;
+      station·token-is-sound = λ held clock. given refl;
       station·message-is-sound = λ m. given refl;
       station·blank-station = λ number count. given refl;
       record·read = λ bytes. given refl;

@@ -7,7 +7,7 @@ use mathlib.Core.Bool.{true}
 use lib.ListN.{length}
 use Rattle.station.specs.declared.station.Station.{Station}
 use Rattle.rules.specs.declared.message.Message.{Message}
-use Rattle.rules.specs.Limits.{mostStations}
+use Rattle.ground.specs.Limits.{mostStations}
 use Rattle.station.specs.Sound.{messageSound}
 use Rattle.station.specs.Steps.{showAnswer, messageFor, receiveOf}
 use Rattle.record.specs.Dateless.{recordOf}

@@ -1,12 +1,12 @@
 -- The worked script, as its own bytes, prints the printed output, as its own bytes. Assumes
 -- nothing.
 use mathlib.Core.Path.{_≡_, refl}
-use Rattle.handshake.specs.Sums.{sumBelow}
-use Rattle.rules.specs.Below.{allBelow}
+use Rattle.ground.specs.Sums.{sumBelow}
+use Rattle.ground.specs.Below.{allBelow}
 use Rattle.station.specs.Sound.{stationSound, messageSound}
 use Rattle.rules.specs.Taking.{takeOf}
 use Rattle.station.specs.Steps.{addOf, drawOf, showOf, receiveOf}
-use Rattle.pool.specs.Pool.{firstFrom}
+use Rattle.ground.specs.First.{firstFrom}
 use Rattle.table.specs.Sound.{tableSound}
 use Rattle.table.specs.Fresh.{seatsTo, freshOf}
 use Rattle.steps.specs.Steps.{stepOf}

@@ -4,8 +4,8 @@ use Prim.Native.Nat.{ℕ, _+_}
 use mathlib.Core.Path.{_≡_}
 use mathlib.Core.Logic.{_⊎_, _≢_}
 use lib.ListN.{length}
-use Rattle.rules.specs.Answers.{done}
-use Rattle.rules.specs.Limits.{mostStations}
+use Rattle.ground.specs.Answers.{done}
+use Rattle.ground.specs.Limits.{mostStations}
 use Rattle.rules.specs.Stock.{drawnFrom}
 use Rattle.station.specs.declared.station.Station.{Station}
 use Rattle.station.specs.Steps.{drawOf}

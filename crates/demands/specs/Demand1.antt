@@ -5,9 +5,15 @@
 -- to the parameters by their names: `tools/listed` holds each row against the source.
 -- Not listed: `station::count_is_sound`, `station::station_is_sound`. They are tests.
 -- Not listed: `station::message_is_sound`, `table::table_is_sound`. They are tests.
--- Not listed: `rules::clocks_agree`, `rules::SourceClock::in_range`. They are tests.
--- Not listed: `rules::DestinationClock::in_range`. It is a test.
--- Not listed: `rules::SourceClock::is_above`, `rules::DestinationClock::is_above`. They compare.
+-- Not listed: `station::slot_is_sound`, `station::token_is_sound`. They are tests.
+-- Not listed: `rules::clocks_agree`, `ground::SourceClock::in_range`. They are tests.
+-- Not listed: `ground::DestinationClock::in_range`. It is a test.
+-- Not listed: `ground::SourceClock::before_end`. It is a test.
+-- Not listed: `ground::DestinationClock::before_end`. It is a test.
+-- Not listed: `ground::SourceClock::is_above`, `ground::DestinationClock::is_above`. They compare.
+-- Not listed: `ground::SourceClock::equals`, `ground::DestinationClock::equals`. They compare.
+-- Not listed: `ground::SourceClock::next`, `ground::DestinationClock::next`. They take any clock.
+-- Not listed: `ground::half`. It takes any difference.
 -- Not listed: `station::blank_station`, `rules::no_message`. They make what they are told to.
 -- Not listed: `rules::no_report`. It makes what it is told to.
 -- Not listed: `rules::rules_of`, `steps::numbers_for`. They tell what they are given in numbers.
@@ -26,28 +32,26 @@ use Rattle.rules.specs.declared.taking.Taken.{Taken}
 use Rattle.station.specs.declared.message.Shown.{Shown}
 use Rattle.station.specs.declared.outcome.Outcome.{Outcome}
 use Rattle.station.specs.declared.station.Station.{Station}
-use Rattle.rules.specs.Answers.{done}
-use Rattle.rules.specs.Limits.{mostStations}
+use Rattle.ground.specs.Answers.{done}
+use Rattle.ground.specs.Limits.{mostStations}
 use Rattle.rules.specs.Report.{noReport}
 use Rattle.rules.specs.Message.{noMessage}
 use Rattle.rules.specs.Stock.{addedTo, drawnFrom}
 use Rattle.rules.specs.Taking.{takenOf}
 use Rattle.station.specs.Steps.{blank, freshOf, addOf, drawOf, showOf, receiveOf}
 use Rattle.record.specs.declared.reading.Reading.{Reading}
-use Rattle.record.specs.declared.writing.Written.{Written}
+use Rattle.ground.specs.declared.told.Told.{Told}
 use Rattle.record.specs.Reading.{readOf}
 use Rattle.record.specs.Writing.{WritesGiven}
 use Rattle.record.specs.AtStation.{WritesFor, receiveBytesOf}
-use Rattle.quynhabet.specs.declared.told.Told.{Told}
+use Rattle.quynhabet.specs.declared.told.ToldNumbers.{ToldNumbers}
 use Rattle.quynhabet.specs.Exports.{plainTold, Makes, checkOf, Adds, Draws, Shows, Receives, Reads, WritesNumbers}
 use Rattle.pool.specs.declared.lent.Pooled.{Pooled}
-use Rattle.pool.specs.declared.lent.Told.{Told as PoolTold}
 use Rattle.steps.specs.declared.running.Ran.{Ran}
 use Rattle.steps.specs.declared.asked.Step.{Step}
 use Rattle.pool.specs.declared.places.Place.{Place}
 use Rattle.table.specs.declared.stepped.Stepped.{Stepped}
 use Rattle.table.specs.declared.table.Table.{Table}
-use Rattle.table.specs.declared.way.Summed.{Summed}
 use Rattle.pool.specs.Pool.{mostPlaces}
 use Rattle.table.specs.Fresh.{freshOf as freshTableOf}
 use Rattle.pool.specs.Lent.{cleared, SendsIn, LosesIn, sentValue, lostValue}
@@ -93,7 +97,7 @@ abbrev pub RefusedRan : Table → List ℕ → Ran → List ℕ → Type 0
 RefusedRan t before r after = r .answer ≢ done → (r .result ≡ 0) × (r .table ≡ t) × (after ≡ before)
 
 -- a refused sum is 0
-abbrev pub RefusedSum : Summed → Type 0
+abbrev pub RefusedSum : Told → Type 0
 RefusedSum r = r .answer ≢ done → r .result ≡ 0
 
 -- where there is no report: result 0, and what is there is what has to be there after a refusal
@@ -108,10 +112,10 @@ abbrev pub RefusedReading : Reading → Type 0
 RefusedReading r = Refused (r .answer) (r .result) noMessage (r .message)
 
 -- what was lent is as it was: the bytes of a buffer, the places of a pool
-abbrev pub RefusedBytes : List ℕ → Written → List ℕ → Type 0
+abbrev pub RefusedBytes : List ℕ → Told → List ℕ → Type 0
 RefusedBytes before r after = Refused (r .answer) (r .result) before after
 
-abbrev pub RefusedPool : List Place → PoolTold → List Place → Type 0
+abbrev pub RefusedPool : List Place → Told → List Place → Type 0
 RefusedPool before r after = Refused (r .answer) (r .result) before after
 
 abbrev pub RefusedPooled : List Place → Pooled → Type 0
@@ -119,11 +123,11 @@ RefusedPooled before r = RefusedPool before (r .told) (r .pool)
 
 -- where all that crosses is numbers: result 0, an empty report, and what was lent to be changed is
 -- as it was
-abbrev pub RefusedNumbers : List ℕ → Told → List ℕ → Type 0
+abbrev pub RefusedNumbers : List ℕ → ToldNumbers → List ℕ → Type 0
 RefusedNumbers before r after = r .answer ≢ done → (r ≡ plainTold (r .answer) 0) × (after ≡ before)
 
 -- where nothing is lent to be changed: result 0, and an empty report
-abbrev pub RefusedTold : Told → Type 0
+abbrev pub RefusedTold : ToldNumbers → Type 0
 RefusedTold r = r .answer ≢ done → r ≡ plainTold (r .answer) 0
 
 -- a refused script hands back no run
@@ -157,35 +161,35 @@ pub record Demand1 : Type 0 where
   -- 9: a refused reading is no message
   pub record·read : (bytes : List ℕ) → RefusedReading (readOf bytes)
   -- 9, 14: every byte of the buffer is as it was
-  pub record·write : (m : Message) (buffer : List ℕ) (r : Written) (buffer′ : List ℕ)
+  pub record·write : (m : Message) (buffer : List ℕ) (r : Told) (buffer′ : List ℕ)
       → WritesGiven m buffer r buffer′ → RefusedBytes buffer r buffer′
   -- 1, 2, 3, 14: every byte of the buffer is as it was
-  pub record·write-message : (s : Station) (to : ℕ) (buffer : List ℕ) (r : Written) (buffer′ : List ℕ)
+  pub record·write-message : (s : Station) (to : ℕ) (buffer : List ℕ) (r : Told) (buffer′ : List ℕ)
       → WritesFor s to buffer r buffer′ → RefusedBytes buffer r buffer′
   -- 1, 9, 2, 11, 10: the station is as it was
   pub record·receive-bytes : (s : Station) (bytes : List ℕ) → RefusedAs s (receiveBytesOf s bytes)
   -- 1, 2: the station's numbers are as they were
-  pub quynhabet·qb-station-fresh : (number count : ℕ) (station : List ℕ) (r : Told) (station′ : List ℕ)
+  pub quynhabet·qb-station-fresh : (number count : ℕ) (station : List ℕ) (r : ToldNumbers) (station′ : List ℕ)
       → Makes number count station r station′ → RefusedNumbers station r station′
   -- 1: nothing is lent to be changed
   pub quynhabet·qb-station-check : (station : List ℕ) → RefusedTold (checkOf station)
   -- 1, 4, 5, 10: the station's numbers are as they were
-  pub quynhabet·qb-station-add : (station : List ℕ) (amount : ℕ) (r : Told) (station′ : List ℕ)
+  pub quynhabet·qb-station-add : (station : List ℕ) (amount : ℕ) (r : ToldNumbers) (station′ : List ℕ)
       → Adds station amount r station′ → RefusedNumbers station r station′
   -- 1, 4, 15: the station's numbers are as they were
-  pub quynhabet·qb-station-draw : (station : List ℕ) (amount : ℕ) (r : Told) (station′ : List ℕ)
+  pub quynhabet·qb-station-draw : (station : List ℕ) (amount : ℕ) (r : ToldNumbers) (station′ : List ℕ)
       → Draws station amount r station′ → RefusedNumbers station r station′
   -- 1, 2, 3, 14: every byte of the buffer is as it was
-  pub quynhabet·qb-station-write : (station : List ℕ) (to : ℕ) (out : List ℕ) (r : Told) (out′ : List ℕ)
+  pub quynhabet·qb-station-write : (station : List ℕ) (to : ℕ) (out : List ℕ) (r : ToldNumbers) (out′ : List ℕ)
       → Shows station to out r out′ → RefusedNumbers out r out′
   -- 1, 9, 2, 11, 10: the station's numbers are as they were
-  pub quynhabet·qb-station-receive : (station bytes : List ℕ) (r : Told) (station′ : List ℕ)
+  pub quynhabet·qb-station-receive : (station bytes : List ℕ) (r : ToldNumbers) (station′ : List ℕ)
       → Receives station bytes r station′ → RefusedNumbers station r station′
   -- 9: the message's numbers are as they were
-  pub quynhabet·qb-record-read : (bytes message : List ℕ) (r : Told) (message′ : List ℕ)
+  pub quynhabet·qb-record-read : (bytes message : List ℕ) (r : ToldNumbers) (message′ : List ℕ)
       → Reads bytes message r message′ → RefusedNumbers message r message′
   -- 9, 14: every byte of the buffer is as it was
-  pub quynhabet·qb-record-write : (message out : List ℕ) (r : Told) (out′ : List ℕ) → WritesNumbers message out r out′ → RefusedNumbers out r out′
+  pub quynhabet·qb-record-write : (message out : List ℕ) (r : ToldNumbers) (out′ : List ℕ) → WritesNumbers message out r out′ → RefusedNumbers out r out′
   -- 1: a refused making is no table
   pub table·fresh-table : (count : ℕ) → RefusedAsTable noTable (freshTableOf count)
   -- 1, then those of an add, a draw, a send, a delivery or a loss: the table is as it was
@@ -197,10 +201,10 @@ pub record Demand1 : Type 0 where
   -- 1: the sum is 0
   pub table·at-stations : (t : Table) → RefusedSum (stationsAsked t)
   -- 1, 6: every place of the pool is as it was
-  pub pool·send-in : (pool : List Place) (m : Message) (r : PoolTold) (pool′ : List Place)
+  pub pool·send-in : (pool : List Place) (m : Message) (r : Told) (pool′ : List Place)
       → SendsIn pool m r pool′ → RefusedPool pool r pool′
   -- 1, 7, 8: every place of the pool is as it was
-  pub pool·lose-in : (pool : List Place) (p : ℕ) (r : PoolTold) (pool′ : List Place)
+  pub pool·lose-in : (pool : List Place) (p : ℕ) (r : Told) (pool′ : List Place)
       → LosesIn pool p r pool′ → RefusedPool pool r pool′
   -- 6: the pool by value, as it was
   pub pool·send-value : (pool : List Place) (m : Message) → RefusedPooled pool (sentValue pool m)

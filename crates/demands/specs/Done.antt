@@ -10,7 +10,7 @@ use Rattle.station.specs.Side.{sideFor}
 use Rattle.station.specs.Steps.{freshOf as freshStation, addOf, drawOf, showOf, receiveOf, messageFor}
 use Rattle.record.specs.Dateless.{recordOf}
 use Rattle.record.specs.Reading.{readOf}
-use Rattle.record.specs.Writing.{written, writeAnswer}
+use Rattle.record.specs.Writing.{writeAnswer}
 use Rattle.record.specs.AtStation.{writeForAnswer, receiveBytesOf}
 use Rattle.steps.specs.declared.asked.Step.the-variants.{Add, Draw, Send, Deliver, Lose}
 use Rattle.table.specs.declared.table.Table.{Table}
@@ -56,9 +56,9 @@ doneAnswers =
     -- read
     ∷ readOf (recordOf pays) .answer
     -- write
-    ∷ written (writeAnswer pays 49) (recordOf pays) .answer
+    ∷ writeAnswer pays 49
     -- write_message
-    ∷ written (writeForAnswer gave 0 49) (recordOf (messageFor gave 0)) .answer
+    ∷ writeForAnswer gave 0 49
     -- receive_bytes
     ∷ receiveBytesOf asked (recordOf pays) .answer
     -- fresh_table

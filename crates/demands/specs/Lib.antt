@@ -3,6 +3,7 @@ pub mod Cases
 pub mod Halves
 pub mod Cuts
 pub mod Wrong
+pub mod WrongGround
 pub mod WrongRules
 pub mod WrongTables
 pub mod WrongScripts

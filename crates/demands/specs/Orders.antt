@@ -5,17 +5,17 @@ use Prim.Native.Nat.{ℕ}
 use mathlib.Core.List.{List, [], _∷_, List·Memᴰ}
 use Rattle.rules.specs.declared.message.Message.{Message}
 use Rattle.rules.specs.declared.side.Side.{Side}
-use Rattle.rules.specs.Answers.{done}
-use Rattle.rules.specs.Refusals.{Refusal, numbersIn}
+use Rattle.ground.specs.Answers.{done}
+use Rattle.ground.specs.Refusals.{Refusal, numbersIn}
 use Rattle.rules.specs.Stock.{addToRefusals, addedTo, drawFromRefusals, drawnFrom}
 use Rattle.rules.specs.Taking.{takeRefusals, takenOf}
 use Rattle.station.specs.declared.station.Station.{Station}
 use Rattle.station.specs.Steps.{freshRefusals, freshOf, addRefusals, addOf, drawRefusals, drawOf, showRefusals, showOf, receiveRefusals, receiveOf}
-use Rattle.record.specs.declared.writing.Written.{Written}
+use Rattle.ground.specs.declared.told.Told.{Told}
 use Rattle.record.specs.Reading.{readRefusals, readOf}
 use Rattle.record.specs.Writing.{writeRefusals, WritesGiven}
 use Rattle.record.specs.AtStation.{writeForRefusals, WritesFor, receiveBytesRefusals, receiveBytesOf}
-use Rattle.quynhabet.specs.declared.told.Told.{Told}
+use Rattle.quynhabet.specs.declared.told.ToldNumbers.{ToldNumbers}
 use Rattle.quynhabet.specs.Exports.{Makes, checkRefusals, checkOf, Adds, Draws, Shows, Receives, Reads, WritesNumbers}
 use Rattle.pool.specs.declared.places.Place.{Place}
 use Rattle.steps.specs.declared.running.Ran.{Ran}
@@ -106,21 +106,21 @@ pub record Answers : Type 0 where
   pub receive : (s : Station) (m : Message) → OneOf (receiveOf s m .answer) (1 ∷ 9 ∷ 2 ∷ 11 ∷ 10 ∷ [])
   pub read : (bytes : List ℕ) → OneOf (readOf bytes .answer) (9 ∷ [])
   pub receive-bytes : (s : Station) (bytes : List ℕ) → OneOf (receiveBytesOf s bytes .answer) (1 ∷ 9 ∷ 2 ∷ 11 ∷ 10 ∷ [])
-  pub write : (m : Message) (before : List ℕ) (r : Written) (after : List ℕ) → WritesGiven m before r after → OneOf (r .answer) (9 ∷ 14 ∷ [])
-  pub write-message : (s : Station) (to : ℕ) (before : List ℕ) (r : Written) (after : List ℕ)
+  pub write : (m : Message) (before : List ℕ) (r : Told) (after : List ℕ) → WritesGiven m before r after → OneOf (r .answer) (9 ∷ 14 ∷ [])
+  pub write-message : (s : Station) (to : ℕ) (before : List ℕ) (r : Told) (after : List ℕ)
       → WritesFor s to before r after → OneOf (r .answer) (1 ∷ 2 ∷ 3 ∷ 14 ∷ [])
   pub take : (x : Side) (m : Message) → OneOf (takenOf x m .answer) (1 ∷ 9 ∷ 10 ∷ [])
   pub add-to : (value intake amount : ℕ) → OneOf (addedTo value intake amount .answer) (1 ∷ 4 ∷ 5 ∷ 10 ∷ [])
   pub draw-from : (value intake amount : ℕ) → OneOf (drawnFrom value intake amount .answer) (1 ∷ 4 ∷ 15 ∷ [])
-  pub qb-station-fresh : (number count : ℕ) (station : List ℕ) (r : Told) (station′ : List ℕ) → Makes number count station r station′ → OneOf (r .answer) (1 ∷ 2 ∷ [])
+  pub qb-station-fresh : (number count : ℕ) (station : List ℕ) (r : ToldNumbers) (station′ : List ℕ) → Makes number count station r station′ → OneOf (r .answer) (1 ∷ 2 ∷ [])
   pub qb-station-check : (station : List ℕ) → OneOf (checkOf station .answer) (1 ∷ [])
-  pub qb-station-add : (station : List ℕ) (amount : ℕ) (r : Told) (station′ : List ℕ) → Adds station amount r station′ → OneOf (r .answer) (1 ∷ 4 ∷ 5 ∷ 10 ∷ [])
-  pub qb-station-draw : (station : List ℕ) (amount : ℕ) (r : Told) (station′ : List ℕ) → Draws station amount r station′ → OneOf (r .answer) (1 ∷ 4 ∷ 15 ∷ [])
-  pub qb-station-write : (station : List ℕ) (to : ℕ) (out : List ℕ) (r : Told) (out′ : List ℕ) → Shows station to out r out′ → OneOf (r .answer) (1 ∷ 2 ∷ 3 ∷ 14 ∷ [])
-  pub qb-station-receive : (station bytes : List ℕ) (r : Told) (station′ : List ℕ)
+  pub qb-station-add : (station : List ℕ) (amount : ℕ) (r : ToldNumbers) (station′ : List ℕ) → Adds station amount r station′ → OneOf (r .answer) (1 ∷ 4 ∷ 5 ∷ 10 ∷ [])
+  pub qb-station-draw : (station : List ℕ) (amount : ℕ) (r : ToldNumbers) (station′ : List ℕ) → Draws station amount r station′ → OneOf (r .answer) (1 ∷ 4 ∷ 15 ∷ [])
+  pub qb-station-write : (station : List ℕ) (to : ℕ) (out : List ℕ) (r : ToldNumbers) (out′ : List ℕ) → Shows station to out r out′ → OneOf (r .answer) (1 ∷ 2 ∷ 3 ∷ 14 ∷ [])
+  pub qb-station-receive : (station bytes : List ℕ) (r : ToldNumbers) (station′ : List ℕ)
       → Receives station bytes r station′ → OneOf (r .answer) (1 ∷ 9 ∷ 2 ∷ 11 ∷ 10 ∷ [])
-  pub qb-record-read : (bytes message : List ℕ) (r : Told) (message′ : List ℕ) → Reads bytes message r message′ → OneOf (r .answer) (9 ∷ [])
-  pub qb-record-write : (message out : List ℕ) (r : Told) (out′ : List ℕ) → WritesNumbers message out r out′ → OneOf (r .answer) (9 ∷ 14 ∷ [])
+  pub qb-record-read : (bytes message : List ℕ) (r : ToldNumbers) (message′ : List ℕ) → Reads bytes message r message′ → OneOf (r .answer) (9 ∷ [])
+  pub qb-record-write : (message out : List ℕ) (r : ToldNumbers) (out′ : List ℕ) → WritesNumbers message out r out′ → OneOf (r .answer) (9 ∷ 14 ∷ [])
   pub start : (script : List ℕ) → OneOf (startedOf script .answer) (13 ∷ 12 ∷ 1 ∷ [])
   pub put-answer : (answer : ℕ) (out : List ℕ) (r : Put) (out′ : List ℕ) → PutsAnswer answer out r out′ → OneOf (r .answer) (14 ∷ [])
   pub fill : (script : List ℕ) (run : Run) (out : List ℕ) (r : Filled) (out′ : List ℕ) → Fills script run out r out′ → OneOf (r .answer) (1 ∷ 14 ∷ [])

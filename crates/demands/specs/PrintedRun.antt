@@ -6,7 +6,7 @@ use Prim.Native.Nat.{ℕ, zero, suc, _+_, _≤_}
 use mathlib.Core.Path.{_≡_}
 use mathlib.Core.List.{List, [], _∷_, _++_}
 use lib.ListN.{length}
-use Rattle.rules.specs.Answers.{done, badLine}
+use Rattle.ground.specs.Answers.{done, badLine}
 use Rattle.steps.specs.declared.asked.Asked.{Asked}
 use Rattle.steps.specs.declared.asked.Asked.the-variants.{NoStep, OneStep}
 use Rattle.steps.specs.declared.asked.Step.{Step}

@@ -6,23 +6,27 @@
 use Prim.Native.Nat.{ℕ}
 use mathlib.Core.Path.{_≡_}
 use mathlib.Core.List.{List}
+use lib.IntN.{ℤ}
 use denote.Ref.{RefT as Lent, now}
+use Rattle.rules.specs.declared.held.HeldToken.{HeldToken}
+use Rattle.rules.specs.declared.held.HeldSlot.{HeldSlot}
 use Rattle.demands.specs.Contracts.{Settles, SettlesBoth}
-use Rattle.rules.specs.declared.clocks.SourceClock.{SourceClock}
-use Rattle.rules.specs.declared.clocks.DestinationClock.{DestinationClock}
+use Rattle.ground.specs.declared.clocks.SourceClock.{SourceClock}
+use Rattle.ground.specs.declared.clocks.DestinationClock.{DestinationClock}
+use Rattle.ground.specs.Clocks.{sourceInRange, sourceAbove, sourceSame, sourceBeforeEnd, sourceNext, destinationInRange, destinationAbove, destinationSame, destinationBeforeEnd, destinationNext}
+use Rattle.ground.specs.Half.{halfOf}
 use Rattle.rules.specs.declared.held.Slot.{Slot}
 use Rattle.rules.specs.declared.held.Token.{Token}
 use Rattle.rules.specs.declared.message.Message.{Message}
 use Rattle.rules.specs.declared.report.Report.{Report}
 use Rattle.rules.specs.declared.side.Side.{Side}
-use Rattle.rules.specs.Clocks.{sourceInRange, sourceAbove, destinationInRange, destinationAbove}
 use Rattle.rules.specs.Message.{noMessage}
 use Rattle.rules.specs.Report.{noReport, rulesOf}
 use Rattle.rules.specs.Rules.{agree}
 use Rattle.rules.specs.Stock.{addedTo, drawnFrom}
 use Rattle.rules.specs.Taking.{takenOf}
 use Rattle.station.specs.declared.station.Station.{Station}
-use Rattle.station.specs.Sound.{countSound, stationSound, messageSound}
+use Rattle.station.specs.Sound.{countSound, stationSound, messageSound, slotSound, tokenSound}
 use Rattle.station.specs.Steps.{blank, freshOf, addOf, drawOf, showOf, receiveOf}
 use Rattle.record.specs.Reading.{readOf}
 use Rattle.record.specs.Writing.{WritesGiven}
@@ -44,6 +48,40 @@ use Rattle.script.specs.Filling.{Fills}
 use Rattle.script.specs.Starting.{PutsAnswer, startedOf}
 
 pub record Settled : Type 2 where
+  -- the two clocks, and half of a difference
+  pub ground·SourceClock·in-range : (self : SourceClock)
+      → Settles Rattle.ground.proofs.clocks.SourceClock.in_range.ended (λ M 𝓤. Rattle.ground.proofs.clocks.SourceClock.in_range.clauses 𝓤)
+      (λ κ. (self, tt)) (λ κ r. r ≡ sourceInRange self)
+  pub ground·SourceClock·is-above : (self other : SourceClock)
+      → Settles Rattle.ground.proofs.clocks.SourceClock.is_above.ended (λ M 𝓤. Rattle.ground.proofs.clocks.SourceClock.is_above.clauses 𝓤)
+      (λ κ. (self, (other, tt))) (λ κ r. r ≡ sourceAbove self other)
+  pub ground·SourceClock·equals : (self other : SourceClock)
+      → Settles Rattle.ground.proofs.clocks.SourceClock.equals.ended (λ M 𝓤. Rattle.ground.proofs.clocks.SourceClock.equals.clauses 𝓤)
+      (λ κ. (self, (other, tt))) (λ κ r. r ≡ sourceSame self other)
+  pub ground·SourceClock·before-end : (self : SourceClock)
+      → Settles Rattle.ground.proofs.clocks.SourceClock.before_end.ended (λ M 𝓤. Rattle.ground.proofs.clocks.SourceClock.before_end.clauses 𝓤)
+      (λ κ. (self, tt)) (λ κ r. r ≡ sourceBeforeEnd self)
+  pub ground·SourceClock·next : (self : SourceClock)
+      → Settles Rattle.ground.proofs.clocks.SourceClock.next.ended (λ M 𝓤. Rattle.ground.proofs.clocks.SourceClock.next.clauses 𝓤)
+      (λ κ. (self, tt)) (λ κ r. r ≡ sourceNext self)
+  pub ground·DestinationClock·in-range : (self : DestinationClock)
+      → Settles Rattle.ground.proofs.clocks.DestinationClock.in_range.ended (λ M 𝓤. Rattle.ground.proofs.clocks.DestinationClock.in_range.clauses 𝓤)
+      (λ κ. (self, tt)) (λ κ r. r ≡ destinationInRange self)
+  pub ground·DestinationClock·is-above : (self other : DestinationClock)
+      → Settles Rattle.ground.proofs.clocks.DestinationClock.is_above.ended (λ M 𝓤. Rattle.ground.proofs.clocks.DestinationClock.is_above.clauses 𝓤)
+      (λ κ. (self, (other, tt))) (λ κ r. r ≡ destinationAbove self other)
+  pub ground·DestinationClock·equals : (self other : DestinationClock)
+      → Settles Rattle.ground.proofs.clocks.DestinationClock.equals.ended (λ M 𝓤. Rattle.ground.proofs.clocks.DestinationClock.equals.clauses 𝓤)
+      (λ κ. (self, (other, tt))) (λ κ r. r ≡ destinationSame self other)
+  pub ground·DestinationClock·before-end : (self : DestinationClock)
+      → Settles Rattle.ground.proofs.clocks.DestinationClock.before_end.ended (λ M 𝓤. Rattle.ground.proofs.clocks.DestinationClock.before_end.clauses 𝓤)
+      (λ κ. (self, tt)) (λ κ r. r ≡ destinationBeforeEnd self)
+  pub ground·DestinationClock·next : (self : DestinationClock)
+      → Settles Rattle.ground.proofs.clocks.DestinationClock.next.ended (λ M 𝓤. Rattle.ground.proofs.clocks.DestinationClock.next.clauses 𝓤)
+      (λ κ. (self, tt)) (λ κ r. r ≡ destinationNext self)
+  pub ground·half : (d : ℤ)
+      → Settles Rattle.ground.proofs.half.half.ended (λ M 𝓤. Rattle.ground.proofs.half.half.clauses 𝓤)
+      (λ κ. (d, tt)) (λ κ r. r ≡ halfOf d)
   -- the rules at one side, and what an add and a draw do to a stock
   pub rules·take : (x : Side) (m : Message)
       → Settles Rattle.rules.proofs.taking.take.ended (λ M 𝓤. Rattle.rules.proofs.taking.take.clauses 𝓤)
@@ -58,18 +96,6 @@ pub record Settled : Type 2 where
   pub rules·clocks-agree : (t : Token) (l : Slot)
       → Settles Rattle.rules.proofs.rules.clocks_agree.ended (λ M 𝓤. Rattle.rules.proofs.rules.clocks_agree.clauses 𝓤)
       (λ κ. (t, (l, tt))) (λ κ r. r ≡ agree t l)
-  pub rules·SourceClock·in-range : (self : SourceClock)
-      → Settles Rattle.rules.proofs.clocks.SourceClock.in_range.ended (λ M 𝓤. Rattle.rules.proofs.clocks.SourceClock.in_range.clauses 𝓤)
-      (λ κ. (self, tt)) (λ κ r. r ≡ sourceInRange self)
-  pub rules·SourceClock·is-above : (self other : SourceClock)
-      → Settles Rattle.rules.proofs.clocks.SourceClock.is_above.ended (λ M 𝓤. Rattle.rules.proofs.clocks.SourceClock.is_above.clauses 𝓤)
-      (λ κ. (self, (other, tt))) (λ κ r. r ≡ sourceAbove self other)
-  pub rules·DestinationClock·in-range : (self : DestinationClock)
-      → Settles Rattle.rules.proofs.clocks.DestinationClock.in_range.ended (λ M 𝓤. Rattle.rules.proofs.clocks.DestinationClock.in_range.clauses 𝓤)
-      (λ κ. (self, tt)) (λ κ r. r ≡ destinationInRange self)
-  pub rules·DestinationClock·is-above : (self other : DestinationClock)
-      → Settles Rattle.rules.proofs.clocks.DestinationClock.is_above.ended (λ M 𝓤. Rattle.rules.proofs.clocks.DestinationClock.is_above.clauses 𝓤)
-      (λ κ. (self, (other, tt))) (λ κ r. r ≡ destinationAbove self other)
   pub rules·no-message :
       Settles Rattle.rules.proofs.message.no_message.ended (λ M 𝓤. Rattle.rules.proofs.message.no_message.clauses 𝓤)
       (λ κ. tt) (λ κ r. r ≡ noMessage)
@@ -102,6 +128,12 @@ pub record Settled : Type 2 where
   pub station·station-is-sound : (s : Station)
       → Settles Rattle.station.proofs.sound.station_is_sound.ended (λ M 𝓤. Rattle.station.proofs.sound.station_is_sound.clauses 𝓤)
       (λ κ. (s, tt)) (λ κ r. r ≡ stationSound s)
+  pub station·slot-is-sound : (held : HeldSlot) (clock : DestinationClock)
+      → Settles Rattle.station.proofs.sound.slot_is_sound.ended (λ M 𝓤. Rattle.station.proofs.sound.slot_is_sound.clauses 𝓤)
+      (λ κ. (held, (clock, tt))) (λ κ r. r ≡ slotSound held clock)
+  pub station·token-is-sound : (held : HeldToken) (clock : SourceClock)
+      → Settles Rattle.station.proofs.sound.token_is_sound.ended (λ M 𝓤. Rattle.station.proofs.sound.token_is_sound.clauses 𝓤)
+      (λ κ. (held, (clock, tt))) (λ κ r. r ≡ tokenSound held clock)
   pub station·message-is-sound : (m : Message)
       → Settles Rattle.station.proofs.sound.message_is_sound.ended (λ M 𝓤. Rattle.station.proofs.sound.message_is_sound.clauses 𝓤)
       (λ κ. (m, tt)) (λ κ r. r ≡ messageSound m)

@@ -4,7 +4,8 @@ use Prim.Native.Nat.{ℕ}
 use mathlib.Core.Bool.{Bool, true, false, _&&_, not}
 use mathlib.Core.List.{List, [], _∷_, _++_}
 use lib.Dec.{eqb}
-use lib.ListN.{replicate}
+use lib.ListN.{replicate, length}
+use Rattle.ground.specs.Choice.{ifDone}
 use Rattle.rules.specs.declared.held.HeldSlot.{HeldSlot}
 use Rattle.rules.specs.declared.held.HeldSlot.the-variants.{NoSlot, OneSlot}
 use Rattle.rules.specs.declared.held.HeldToken.{HeldToken}
@@ -15,12 +16,12 @@ use Rattle.station.specs.declared.outcome.Outcome.{Outcome}
 use Rattle.rules.specs.Report.{noReport}
 use Rattle.rules.specs.Rules.{agree}
 use Rattle.station.specs.Side.{putSide}
-use Rattle.station.specs.Sound.{countSound, stationSound, messageSound}
+use Rattle.station.specs.Sound.{countSound, stationSound, messageSound, slotSound, tokenSound}
 use Rattle.rules.specs.Message.{noMessage}
 use Rattle.station.specs.Steps.{blank, putStock, freshOf, addOf, drawOf, showOf, receiveOf, messageFor}
 use Rattle.record.specs.Dateless.{recordOf}
 use Rattle.record.specs.Reading.{readOf}
-use Rattle.record.specs.Writing.{written, left, writeAnswer}
+use Rattle.record.specs.Writing.{inFront, writeAnswer}
 use Rattle.record.specs.AtStation.{writeForAnswer, receiveBytesOf}
 use Rattle.demands.specs.Samples.{station1, from0, slot, token, rulesOf, slotNumbers, tokenNumbers, numbersOf}
 
@@ -72,7 +73,7 @@ pays = from0 3 1 0 NoSlot (token 0 0 5)
 
 -- answer, result, then the buffer
 abbrev wrote : ℕ → List ℕ → List ℕ → List ℕ
-wrote answer bytes before = (written answer bytes .answer ∷ written answer bytes .result ∷ []) ++ left answer bytes before
+wrote answer bytes before = (answer ∷ ifDone answer (length bytes) 0 ∷ []) ++ ifDone answer (inFront bytes before) before
 
 abbrev meet : HeldToken → HeldSlot → Bool
 meet (OneToken t) (OneSlot l) = agree t l
@@ -101,6 +102,12 @@ wrongs =
     -- message_is_sound: refuses a token of 0; takes a slot of 0
     ∷ record { promised = truth (messageSound (from0 3 1 0 NoSlot (token 0 0 0))); wrong = 0 ∷ [] }
     ∷ record { promised = truth (messageSound (from0 3 0 1 (slot 0 0 0) NoToken)); wrong = 1 ∷ [] }
+    -- slot_is_sound: takes a destination clock that is not below; refuses a quantity of 1
+    ∷ record { promised = truth (slotSound (slot 0 1 1) (record { 0 = 1 })); wrong = 1 ∷ [] }
+    ∷ record { promised = truth (slotSound (slot 7 0 1) (record { 0 = 1 })); wrong = 0 ∷ [] }
+    -- token_is_sound: takes a source clock that is not below; takes 16,000,000,001
+    ∷ record { promised = truth (tokenSound (token 1 0 1) (record { 0 = 1 })); wrong = 1 ∷ [] }
+    ∷ record { promised = truth (tokenSound (token 0 7 16000000001) (record { 0 = 1 })); wrong = 1 ∷ [] }
     -- receive: refuses everything; fills a second time
     ∷ record { promised = flat (numbersOf (receiveOf asked pays)); wrong = 11 ∷ 0 ∷ 0 ∷ 0 ∷ 2 ∷ 0 ∷ 1 ∷ 0 ∷ 0 ∷ 5 ∷ [] }
     ∷ record { promised = flat (numbersOf (receiveOf (receiveOf asked pays .station) pays)); wrong = 0 ∷ 5 ∷ 1 ∷ 0 ∷ 0 ∷ 12 ∷ 0 ∷ 1 ∷ [] }

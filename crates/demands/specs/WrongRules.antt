@@ -1,4 +1,4 @@
--- Wrong outcomes of what is done at one side, to a stock, and to clocks.
+-- Wrong outcomes of what is done at one side and to a stock.
 use Prim.Native.Nat.{ℕ}
 use mathlib.Core.Bool.{true, false}
 use mathlib.Core.List.{List, [], _∷_, _++_}
@@ -7,13 +7,12 @@ use Rattle.rules.specs.declared.report.Report.{Report}
 use Rattle.rules.specs.declared.side.Side.{Side}
 use Rattle.rules.specs.declared.stock.Stock.{Stock}
 use Rattle.rules.specs.declared.taking.Taken.{Taken}
-use Rattle.rules.specs.Clocks.{sourceInRange, sourceAbove, destinationInRange, destinationAbove}
-use Rattle.rules.specs.Limits.{lastClock, mostIntake}
+use Rattle.ground.specs.Limits.{mostIntake}
 use Rattle.rules.specs.Report.{rulesOf}
 use Rattle.rules.specs.Stock.{addedTo, drawnFrom}
 use Rattle.rules.specs.Taking.{takenOf}
 use Rattle.demands.specs.Samples.{slot, slotNumbers}
-use Rattle.demands.specs.Wrong.{Wrong, truth, pays}
+use Rattle.demands.specs.Wrong.{Wrong, pays}
 
 -- a side with this value that waits for 5
 abbrev waits : ℕ → Side
@@ -44,16 +43,6 @@ wrongRules =
     ∷ record { promised = stockNumbers (drawnFrom 3 3 2); wrong = 0 ∷ 2 ∷ 1 ∷ 1 ∷ [] }
     ∷ record { promised = stockNumbers (drawnFrom 3 3 5); wrong = 0 ∷ 3 ∷ 0 ∷ 3 ∷ [] }
     ∷ record { promised = stockNumbers (drawnFrom 3 3 5); wrong = 15 ∷ 0 ∷ 0 ∷ 3 ∷ [] }
-    -- in_range of either clock: refuses the last number; refuses 0
-    ∷ record { promised = truth (sourceInRange (record { 0 = lastClock })); wrong = 0 ∷ [] }
-    ∷ record { promised = truth (sourceInRange (record { 0 = 0 })); wrong = 0 ∷ [] }
-    ∷ record { promised = truth (destinationInRange (record { 0 = lastClock })); wrong = 0 ∷ [] }
-    ∷ record { promised = truth (destinationInRange (record { 0 = 0 })); wrong = 0 ∷ [] }
-    -- is_above of either clock: holds of the same number; looks the other way
-    ∷ record { promised = truth (sourceAbove (record { 0 = 5 }) (record { 0 = 5 })); wrong = 1 ∷ [] }
-    ∷ record { promised = truth (sourceAbove (record { 0 = 5 }) (record { 0 = 6 })); wrong = 1 ∷ [] }
-    ∷ record { promised = truth (destinationAbove (record { 0 = 5 }) (record { 0 = 5 })); wrong = 1 ∷ [] }
-    ∷ record { promised = truth (destinationAbove (record { 0 = 5 }) (record { 0 = 6 })); wrong = 1 ∷ [] }
     -- rules_of: tells how many rules acted; leaves the third out
     ∷ record { promised = rulesOf oneAndThree ∷ []; wrong = 2 ∷ [] }
     ∷ record { promised = rulesOf oneAndThree ∷ []; wrong = 1 ∷ [] }

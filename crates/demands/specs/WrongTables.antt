@@ -11,7 +11,7 @@ use Rattle.table.specs.declared.stepped.Stepped.{Stepped}
 use Rattle.pool.specs.declared.places.Waiting.{Waiting}
 use Rattle.pool.specs.declared.places.Waiting.the-variants.{Empty, One}
 use Rattle.pool.specs.declared.places.Place.{Place}
-use Rattle.pool.specs.declared.lent.Told.{Told}
+use Rattle.ground.specs.declared.told.Told.{Told}
 use Rattle.table.specs.Table.{stationAt, waitingAt, putStation}
 use Rattle.pool.specs.Pool.{placeIn}
 use Rattle.pool.specs.Lent.{sendInTold, sendInPool, loseInTold, loseInPool}

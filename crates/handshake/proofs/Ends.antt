@@ -10,7 +10,8 @@ use Rattle.handshake.specs.Channel.{Channel, Event}
 use Rattle.handshake.specs.Turn.{Turn}
 use Rattle.handshake.specs.Web.{Web, Moves, End, withEnd}
 use Rattle.handshake.proofs.Rules.{rests}
-use Rattle.handshake.proofs.Tests.{both-same, not-both-same, choice-same, choice-rises}
+use Rattle.ground.proofs.Tests.{both-same, not-both-same}
+use Rattle.ground.proofs.Choices.{choice-same, choice-rises}
 
 module _ {P Q : Type 0} (W : Web P Q) (i j : ℕ) where
   -- the channels that reach the end and leave it

@@ -1,7 +1,5 @@
 pub mod Keeps
 pub mod Rules
-pub mod Tests
-pub mod Sums
 pub mod Histories
 pub mod Webs
 pub mod Ends

@@ -13,8 +13,8 @@ use Rattle.handshake.specs.Turn.{Turn, Stays}
 use Rattle.handshake.specs.History.{entries, departed, arrived}
 use Rattle.handshake.specs.Web.{Web, Moves, weigh, weight, onAllWays}
 use Rattle.handshake.proofs.Keeps.{not-both}
-use Rattle.handshake.proofs.Tests.{both-same}
-use Rattle.handshake.proofs.Sums.{pairs-one}
+use Rattle.ground.proofs.Tests.{both-same}
+use Rattle.ground.proofs.Sums.{pairs-one}
 
 module _ {P Q : Type 0} (w : P → ℕ) where
   pub weight-on : {c : Channel P Q} {t : Held P} → OnTheWay c t → weight w c ≡ w (t .carried)

@@ -1,6 +1,5 @@
 pub mod Channel
 pub mod Clauses
 pub mod Turn
-pub mod Sums
 pub mod History
 pub mod Web

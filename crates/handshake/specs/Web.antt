@@ -10,7 +10,7 @@ use Rattle.handshake.specs.Channel.{Held, Channel, Event, quiet}
 use Rattle.handshake.specs.Turn.{Turn}
 use Rattle.handshake.specs.Clauses.{Standing, GiverShows, ReceiverShows, Spent}
 use Rattle.handshake.specs.History.{transfer, Entry, departure, arrival, In, Pairing}
-use Rattle.handshake.specs.Sums.{sumPairs}
+use Rattle.ground.specs.Sums.{sumPairs}
 
 -- the channel from each giver to each receiver
 abbrev pub Web : Type 0 → Type 0 → Type 0

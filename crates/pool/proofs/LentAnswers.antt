@@ -6,10 +6,12 @@ use mathlib.Core.List.{List}
 use lib.Dec.{T as Holds, eqb, ltb, T-not, not-T, ltb→lt, lt→ltb, eqb→eq}
 use lib.ListN.{length}
 use native.Mathlib.Omega.{arith}
-use Rattle.rules.specs.Refusals.{first}
+use Rattle.ground.specs.Refusals.{first}
+use Rattle.ground.specs.Choice.{ifDone}
+use Rattle.ground.specs.Told.{toldWith}
+use Rattle.ground.specs.declared.told.Told.{Told}
 use Rattle.pool.specs.Pool.{placeIn, isEmpty, lowestEmpty}
-use Rattle.pool.specs.Lent.{told, left, sendInAnswer, loseInAnswer}
-use Rattle.pool.specs.declared.lent.Told.{Told}
+use Rattle.pool.specs.Lent.{sendInAnswer, loseInAnswer}
 use Rattle.pool.specs.declared.places.Place.{Place}
 
 pub lose-on-64 : (pool : List Place) (p : ℕ) → length pool ≡ 64 → loseInAnswer pool p ≡ first (not (ltb p 64)) 7 (first (isEmpty (placeIn pool p)) 8 0)
@@ -79,8 +81,11 @@ module _ (pool : List Place) where
       lose-0 l h = there l ∙ passes (isEmpty (placeIn pool p)) 8 0 h
 
 -- what is told and left, once the answer is known
-pub refuses : (m n r : ℕ) (l c : List Place) → m ≡ suc n → (Path Told (record { answer = suc n; result = 0 }) (told m r)) × (l ≡ left m l c)
-refuses m n r l c e = subst (λ (k : ℕ). (Path Told (record { answer = suc n; result = 0 }) (told k r)) × (l ≡ left k l c)) (sym e) (refl, refl)
+abbrev Ends : ℕ → ℕ → List Place → List Place → Told → List Place → Type 0
+Ends m result pool changed r later = (r ≡ toldWith m result) × (later ≡ ifDone m changed pool)
 
-pub serves : (m r : ℕ) (l c : List Place) → m ≡ 0 → (Path Told (record { answer = 0; result = r }) (told m r)) × (c ≡ left m l c)
-serves m r l c e = subst (λ (k : ℕ). (Path Told (record { answer = 0; result = r }) (told k r)) × (c ≡ left k l c)) (sym e) (refl, refl)
+pub refuses : (m n r : ℕ) (l c : List Place) → m ≡ suc n → Ends m r l c (record { answer = suc n; result = 0 }) l
+refuses m n r l c e = subst (λ (k : ℕ). Ends k r l c (record { answer = suc n; result = 0 }) l) (sym e) (refl, refl)
+
+pub serves : (m r : ℕ) (l c : List Place) → m ≡ 0 → Ends m r l c (record { answer = 0; result = r }) c
+serves m r l c e = subst (λ (k : ℕ). Ends k r l c (record { answer = 0; result = r }) c) (sym e) (refl, refl)

@@ -42,13 +42,14 @@ use denote.Triple.Call.{calls-at}
 use denote.Triple.Clauses.{Ended, lasts}
 use denote.Triple.Statement.{Triple}
 use denote.Triple.Table.{cited, framed}
-use Rattle.pool.specs.Lent.{told, left as remains}
-use Rattle.pool.specs.declared.lent.Told.{Told}
+use Rattle.ground.specs.Choice.{ifDone}
+use Rattle.ground.specs.Told.{toldWith}
+use Rattle.ground.specs.declared.told.Told.{Told}
 use Rattle.pool.specs.declared.lent.Pooled.{Pooled}
 use Rattle.pool.specs.declared.places.Place.{Place}
 use Rattle.pool.proofs.LentPool.{R, vals, pairs, Saying, Promise, Walk, met, gives, over, PoolStep, telling, var, lets, cell, bring, calls, lent, Ends}
-use Rattle.pool.proofs.lent.Told as T
-use Rattle.pool.proofs.lent.Told.Laws as T′
+use Rattle.ground.proofs.told.Told as T
+use Rattle.ground.proofs.told.Told.Laws as T′
 use Rattle.pool.proofs.lent.Pooled as B
 use Rattle.pool.proofs.lent.Pooled.Laws as B′
 use Rattle.pool.proofs.lent.both as both
@@ -87,7 +88,7 @@ abbrev pub value : RattleType → Ended
 value X = record { signature = record { lifetimes = 0; outlives = []; params = plain (λ _. AR) ∷ plain (λ _. X) ∷ []; result = plain (λ _. B.the-row) }; kept = (yes, (yes, tt)) }
 
 abbrev stepped : (X : RattleType) → PoolStep X → List Place → X .Denot → Pooled
-stepped X N xs p = record { told = told (N .answer xs p) (N .result xs p); pool = remains (N .answer xs p) xs (N .changed xs p) }
+stepped X N xs p = record { told = toldWith (N .answer xs p) (N .result xs p); pool = ifDone (N .answer xs p) (N .changed xs p) xs }
 
 abbrev pub yielding : (X : RattleType) → PoolStep X → Saying (value X)
 yielding X N κs a r e = r ≡ stepped X N (a .0) (a .1 .0)

@@ -55,12 +55,14 @@ use denote.Triple.Table.{entered, cited, framed}
 use denote.Triple.Walked.{says}
 use Rattle.rules.proofs.message.Message as Message
 use Rattle.pool.specs.Pool.{isEmpty, lowestEmpty}
-use Rattle.pool.specs.Lent.{cleared, holding, told, left as remains, sendInAnswer, loseInAnswer}
-use Rattle.pool.specs.declared.lent.Told.{Told}
+use Rattle.ground.specs.Choice.{ifDone}
+use Rattle.ground.specs.Told.{toldWith}
+use Rattle.pool.specs.Lent.{cleared, holding, sendInAnswer, loseInAnswer}
+use Rattle.ground.specs.declared.told.Told.{Told}
 use Rattle.pool.specs.declared.places.Place.{Place}
 use Rattle.pool.proofs.LentAnswers.{refuses, serves}
-use Rattle.pool.proofs.lent.Told as T
-use Rattle.pool.proofs.lent.Told.Laws as T′
+use Rattle.ground.proofs.told.Told as T
+use Rattle.ground.proofs.told.Told.Laws as T′
 use Rattle.pool.proofs.places.is_empty as test
 use Rattle.pool.proofs.places.is_empty.Symbol as test-def
 use Rattle.pool.proofs.places.is_empty.Met as test-thm
@@ -248,7 +250,9 @@ abbrev pub losing : PoolStep u64
 losing = record { answer = loseInAnswer; result = λ pool p. 0; changed = λ pool p. set pool p cleared }
 
 abbrev pub telling : (X : RattleType) → PoolStep X → Saying (over X)
-telling X N κs a r e = (r ≡ told (N .answer (now (a .0)) (a .1 .0)) (N .result (now (a .0)) (a .1 .0))) × (now (e .0) ≡ remains (N .answer (now (a .0)) (a .1 .0)) (now (a .0)) (N .changed (now (a .0)) (a .1 .0)))
+telling X N κs a r e =
+    let n = N .answer (now (a .0)) (a .1 .0) in
+    (r ≡ toldWith n (N .result (now (a .0)) (a .1 .0))) × (now (e .0) ≡ ifDone n (N .changed (now (a .0)) (a .1 .0)) (now (a .0)))
 
 beside : {M : Type 1} (𝓤 : URA M) (P : SProp 𝓤) → ent 𝓤 P (sep 𝓤 P (emp 𝓤))
 beside 𝓤 P = via 𝓤 (sep 𝓤 (emp 𝓤) P) (emp∗ 𝓤 P) (comm∗ 𝓤 (emp 𝓤) P)

@@ -1,4 +1,3 @@
-pub mod First
 pub mod LentAnswers
 pub mod LentPool
 pub mod LentBridge

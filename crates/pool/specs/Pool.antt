@@ -1,8 +1,9 @@
 -- The pool: 64 places, each empty or holding one message.
-use Prim.Native.Nat.{ℕ, zero, suc, _+_}
-use mathlib.Core.Bool.{Bool, true, false, cond}
+use Prim.Native.Nat.{ℕ}
+use mathlib.Core.Bool.{Bool, true, false}
 use mathlib.Core.List.{List}
 use lib.ListN.{getD}
+use Rattle.ground.specs.First.{firstFrom}
 use Rattle.pool.specs.declared.places.Waiting.{Waiting}
 use Rattle.pool.specs.declared.places.Waiting.the-variants.{Empty, One}
 use Rattle.pool.specs.declared.places.Place.{Place}
@@ -16,11 +17,6 @@ placeIn pool p = getD pool p (record { waiting = Empty }) .waiting
 abbrev pub isEmpty : Waiting → Bool
 isEmpty Empty = true
 isEmpty (One m) = false
-
--- the first of n numbers from i on at which a test holds, or the number past them
-unfoldable pub firstFrom : (ℕ → Bool) → ℕ → ℕ → ℕ
-firstFrom test zero i = i
-firstFrom test (suc n) i = cond (test i) i (firstFrom test n (i + 1))
 
 -- the lowest-numbered empty place, or 64 where all are taken
 abbrev pub lowestEmpty : List Place → ℕ

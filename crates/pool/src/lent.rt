@@ -6,14 +6,9 @@ use crate::places::MOST_PLACES;
 use crate::places::Place;
 use crate::places::Waiting;
 use crate::places::is_empty;
-use rules::answers;
+use ground::answers;
+use ground::told::Told;
 use rules::message::Message;
-
-// The numbered answer, and the place of a send that is done.
-pub struct Told {
-    pub answer: u8,
-    pub result: u64,
-}
 
 fn holding(m: Message) -> Place
     ensures { λ r. ⌜ r ≡ holding m ⌝ }
@@ -31,7 +26,7 @@ fn cleared() -> Place
     }
 }
 
-// The message goes to the lowest-numbered empty place: refused by 1, 6.
+// The message goes to the lowest-numbered empty place, which is the result: refused by 1, 6.
 pub fn send_in(pool: &mut [Place], m: Message) -> Told
     ensures { λ r. ⌜ SendsIn (now (pool .entry)) m r (now (pool .exit)) ⌝ }
 {

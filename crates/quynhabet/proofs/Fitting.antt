@@ -8,10 +8,11 @@ use lib.Dec.{leb, eqb}
 use lib.ListN.{getD, set}
 use lib.Seq.{sets}
 use borrow.Author.Tests.{leb-true}
-use Rattle.rules.specs.Below.{allBelow}
-use Rattle.rules.specs.Limits.{lastClock, mostStations}
-use Rattle.rules.specs.Clocks.{clockSound}
-use Rattle.rules.proofs.Below.{needed, all-at}
+use Rattle.ground.specs.Below.{allBelow}
+use Rattle.ground.specs.Limits.{lastClock, mostStations}
+use Rattle.ground.specs.Clocks.{clockSound}
+use Rattle.ground.proofs.Tests.{needed}
+use Rattle.ground.proofs.Below.{all-at}
 use Rattle.quynhabet.specs.declared.fours.Four.{Four}
 use Rattle.quynhabet.specs.Layout.{fourNumbers, fourAt, fourFits, isNothing, slotPlace, tokenPlace, cellsFit, stationFits, messageFits}
 

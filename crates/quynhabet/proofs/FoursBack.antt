@@ -8,16 +8,16 @@ use native.Mathlib.Nat.{add-zero}
 use lib.Dec.{eqb, ltb}
 use lib.ListN.{getD}
 use borrow.Author.Tests.{eqb-true, ltb-true, le-leb}
-use Rattle.rules.specs.declared.clocks.SourceClock.{SourceClock}
-use Rattle.rules.specs.declared.clocks.DestinationClock.{DestinationClock}
+use Rattle.ground.specs.declared.clocks.SourceClock.{SourceClock}
+use Rattle.ground.specs.declared.clocks.DestinationClock.{DestinationClock}
 use Rattle.rules.specs.declared.held.HeldSlot.{HeldSlot}
 use Rattle.rules.specs.declared.held.HeldSlot.the-variants.{NoSlot, OneSlot}
 use Rattle.rules.specs.declared.held.HeldToken.{HeldToken}
 use Rattle.rules.specs.declared.held.HeldToken.the-variants.{NoToken, OneToken}
-use Rattle.rules.specs.Limits.{lastClock}
-use Rattle.rules.specs.Clocks.{clockSound}
+use Rattle.ground.specs.Limits.{lastClock}
+use Rattle.ground.specs.Clocks.{clockSound}
 use Rattle.station.specs.Sound.{slotSound, tokenSound}
-use Rattle.rules.proofs.Below.{needed}
+use Rattle.ground.proofs.Tests.{needed}
 use Rattle.quynhabet.specs.declared.fours.Four.{Four}
 use Rattle.quynhabet.specs.Layout.{fourNumbers, fourAt, fourFits, slotFour, tokenFour, slotOf, tokenOf}
 use Rattle.quynhabet.proofs.Fitting.{fitting}

@@ -4,7 +4,7 @@ use mathlib.Core.List.{_++_}
 use lib.ListN.{length, length-append}
 use Rattle.station.specs.declared.station.Station.{Station}
 use Rattle.quynhabet.specs.Layout.{slotNumbersAt, tokenNumbersAt, slotsNumbers, firstNumbers, numbersOf}
-use Rattle.quynhabet.proofs.InTurn.{length-fours}
+use Rattle.ground.proofs.InTurn.{length-fours}
 
 pub length-front : (s : Station) → length (firstNumbers s ++ slotsNumbers s) ≡ 70
 length-front s = rw (length-fours (slotNumbersAt s) (λ k. refl) 16)

@@ -1,4 +1,3 @@
-pub mod InTurn
 pub mod Fitting
 pub mod FoursBack
 pub mod Lengths

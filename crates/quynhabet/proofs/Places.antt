@@ -9,9 +9,9 @@ use Rattle.station.specs.declared.held.SlotCell.{SlotCell}
 use Rattle.station.specs.declared.held.TokenCell.{TokenCell}
 use Rattle.station.specs.declared.station.Station.{Station}
 use Rattle.station.specs.Held.{noSlot, noToken, slotFor, tokenFor}
-use Rattle.rules.specs.Limits.{mostStations}
+use Rattle.ground.specs.Limits.{mostStations}
 use Rattle.quynhabet.specs.Layout.{fourAt, slotFour, tokenFour, slotPlace, tokenPlace, slotNumbersAt, tokenNumbersAt, slotsNumbers, tokensNumbers, firstNumbers, numbersOf, slotOf, tokenOf, slotCell, tokenCell, stationOf}
-use Rattle.quynhabet.proofs.InTurn.{at-ones, at-fours}
+use Rattle.ground.proofs.InTurn.{at-ones, at-fours}
 use Rattle.quynhabet.proofs.Lengths.{length-front}
 use Rattle.quynhabet.proofs.FoursBack.{four-at}
 

@@ -13,13 +13,14 @@ use borrow.Author.Tests.{ltb-true, ltb-false, le-leb}
 use Rattle.rules.specs.declared.message.Message.{Message}
 use Rattle.station.specs.declared.station.Station.{Station}
 use Rattle.station.specs.Held.{noSlot, noToken, slotFor, tokenFor}
-use Rattle.rules.specs.Limits.{mostStations}
+use Rattle.ground.specs.Limits.{mostStations}
 use Rattle.station.specs.Sound.{stationSound, messageSound}
-use Rattle.rules.proofs.Below.{all-from}
+use Rattle.ground.proofs.Below.{all-from}
 use Rattle.station.proofs.Parts.{station-parts, message-parts}
 use Rattle.quynhabet.specs.declared.fours.Four.{Four}
-use Rattle.quynhabet.specs.Layout.{inTurn, fourNumbers, fourAt, slotFour, tokenFour, slotOf, tokenOf, slotPlace, tokenPlace, slotCell, tokenCell, cellsFit, numbersOf, stationOf, stationFits, messageNumbers, messageOf, messageFits}
-use Rattle.quynhabet.proofs.InTurn.{ones-list}
+use Rattle.ground.specs.InTurn.{inTurn}
+use Rattle.quynhabet.specs.Layout.{fourNumbers, fourAt, slotFour, tokenFour, slotOf, tokenOf, slotPlace, tokenPlace, slotCell, tokenCell, cellsFit, numbersOf, stationOf, stationFits, messageNumbers, messageOf, messageFits}
+use Rattle.ground.proofs.InTurn.{ones-list}
 use Rattle.quynhabet.proofs.Fitting.{CellsFit, cell-fits, station-fits, message-fits}
 use Rattle.quynhabet.proofs.FoursBack.{at-four, slot-back, token-back, slot-four-back, token-four-back, slot-fits, token-fits}
 use Rattle.quynhabet.proofs.Lengths.{length-numbers}

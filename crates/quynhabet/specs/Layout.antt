@@ -1,10 +1,11 @@
 -- The numbers that cross to another language, by version: a station is 134 numbers, a message is
 -- 13.
-use Prim.Native.Nat.{ℕ, zero, suc, _+_, _*_}
+use Prim.Native.Nat.{ℕ, _+_, _*_}
 use mathlib.Core.Bool.{Bool, cond, _&&_, _||_}
 use mathlib.Core.List.{List, [], _∷_, _++_}
 use lib.Dec.{leb, eqb}
 use lib.ListN.{getD}
+use Rattle.ground.specs.InTurn.{inTurn}
 use Rattle.rules.specs.declared.held.HeldSlot.{HeldSlot}
 use Rattle.rules.specs.declared.held.HeldSlot.the-variants.{NoSlot, OneSlot}
 use Rattle.rules.specs.declared.held.HeldToken.{HeldToken}
@@ -13,10 +14,10 @@ use Rattle.station.specs.declared.held.SlotCell.{SlotCell}
 use Rattle.station.specs.declared.held.TokenCell.{TokenCell}
 use Rattle.rules.specs.declared.message.Message.{Message}
 use Rattle.station.specs.declared.station.Station.{Station}
-use Rattle.rules.specs.Below.{allBelow}
+use Rattle.ground.specs.Below.{allBelow}
 use Rattle.station.specs.Held.{slotFor, tokenFor}
-use Rattle.rules.specs.Limits.{mostStations}
-use Rattle.rules.specs.Clocks.{clockSound}
+use Rattle.ground.specs.Limits.{mostStations}
+use Rattle.ground.specs.Clocks.{clockSound}
 use Rattle.quynhabet.specs.declared.fours.Four.{Four}
 
 -- goes up by 1 where what is said here changes
@@ -59,11 +60,6 @@ isNothing f = eqb (f .source) 0 && eqb (f .destination) 0 && eqb (f .quantity) 0
 
 unfoldable pub fourFits : Four → Bool
 fourFits f = leb (f .present) 1 && (clockSound (f .source) && clockSound (f .destination)) && (eqb (f .present) 1 || isNothing f)
-
--- what a function gives at 0, 1, 2, and so on below a bound, one after the other
-unfoldable pub inTurn : {A : Type 0} → (ℕ → List A) → ℕ → List A
-inTurn f zero = []
-inTurn f (suc n) = inTurn f n ++ f n
 
 -- A station: number, count, value, intake, source clock, destination clock; then the slots for
 -- peers 0 to 15, then the tokens.

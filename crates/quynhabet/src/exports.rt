@@ -11,16 +11,16 @@ use crate::moving::read_by;
 use crate::moving::receive_by;
 use crate::stations::station_fits;
 use crate::stations::station_of;
-use crate::told::Told;
+use crate::told::ToldNumbers;
 use crate::told::plain_told;
-use rules::answers::DONE;
-use rules::answers::NO_RECORD;
-use rules::answers::NOT_SOUND;
+use ground::answers::DONE;
+use ground::answers::NO_RECORD;
+use ground::answers::NOT_SOUND;
 use station::sound::station_is_sound;
 
 // Makes a station with nothing in it: refused by 1, 2.
 #[no_mangle]
-pub extern "C" fn qb_station_fresh(number: u64, count: u64, station: &mut [u64; 134]) -> Told
+pub extern "C" fn qb_station_fresh(number: u64, count: u64, station: &mut [u64; 134]) -> ToldNumbers
     ensures { λ r. ⌜ Makes number count (now (station .entry)) r (now (station .exit)) ⌝ }
 {
     let numbers = *station;
@@ -32,7 +32,7 @@ pub extern "C" fn qb_station_fresh(number: u64, count: u64, station: &mut [u64; 
 
 // Whether the numbers are a sound station: refused by 1.
 #[no_mangle]
-pub extern "C" fn qb_station_check(station: &[u64; 134]) -> Told
+pub extern "C" fn qb_station_check(station: &[u64; 134]) -> ToldNumbers
     ensures { λ r. ⌜ r ≡ checkOf (now (station .entry)) ⌝ }
 {
     let numbers = *station;
@@ -47,7 +47,7 @@ pub extern "C" fn qb_station_check(station: &[u64; 134]) -> Told
 
 // Raises value and intake: refused by 1, 4, 5, 10.
 #[no_mangle]
-pub extern "C" fn qb_station_add(station: &mut [u64; 134], amount: u64) -> Told
+pub extern "C" fn qb_station_add(station: &mut [u64; 134], amount: u64) -> ToldNumbers
     ensures { λ r. ⌜ Adds (now (station .entry)) amount r (now (station .exit)) ⌝ }
 {
     let numbers = *station;
@@ -59,7 +59,7 @@ pub extern "C" fn qb_station_add(station: &mut [u64; 134], amount: u64) -> Told
 
 // Takes the smaller of the value and the amount: refused by 1, 4.
 #[no_mangle]
-pub extern "C" fn qb_station_draw(station: &mut [u64; 134], amount: u64) -> Told
+pub extern "C" fn qb_station_draw(station: &mut [u64; 134], amount: u64) -> ToldNumbers
     ensures { λ r. ⌜ Draws (now (station .entry)) amount r (now (station .exit)) ⌝ }
 {
     let numbers = *station;
@@ -71,7 +71,7 @@ pub extern "C" fn qb_station_draw(station: &mut [u64; 134], amount: u64) -> Told
 
 // Writes the station's message for another station as a record: refused by 1, 2, 3, 14.
 #[no_mangle]
-pub extern "C" fn qb_station_write(station: &[u64; 134], to: u64, out: &mut [u8]) -> Told
+pub extern "C" fn qb_station_write(station: &[u64; 134], to: u64, out: &mut [u8]) -> ToldNumbers
     ensures { λ r. ⌜ Shows (now (station .entry)) to (now (out .entry)) r (now (out .exit)) ⌝ }
 {
     let numbers = *station;
@@ -84,7 +84,7 @@ pub extern "C" fn qb_station_write(station: &[u64; 134], to: u64, out: &mut [u8]
 
 // Lets the station take a record: refused by 1, 9, 2, 11, 10.
 #[no_mangle]
-pub extern "C" fn qb_station_receive(station: &mut [u64; 134], bytes: &[u8]) -> Told
+pub extern "C" fn qb_station_receive(station: &mut [u64; 134], bytes: &[u8]) -> ToldNumbers
     ensures { λ r. ⌜ Receives (now (station .entry)) (now (bytes .entry)) r (now (station .exit)) ⌝ }
 {
     let numbers = *station;
@@ -96,7 +96,7 @@ pub extern "C" fn qb_station_receive(station: &mut [u64; 134], bytes: &[u8]) -> 
 
 // Reads a record into a message: refused by 9.
 #[no_mangle]
-pub extern "C" fn qb_record_read(bytes: &[u8], message: &mut [u64; 13]) -> Told
+pub extern "C" fn qb_record_read(bytes: &[u8], message: &mut [u64; 13]) -> ToldNumbers
     ensures { λ r. ⌜ Reads (now (bytes .entry)) (now (message .entry)) r (now (message .exit)) ⌝ }
 {
     let numbers = *message;
@@ -108,7 +108,7 @@ pub extern "C" fn qb_record_read(bytes: &[u8], message: &mut [u64; 13]) -> Told
 
 // Writes a message as a record: refused by 9, 14.
 #[no_mangle]
-pub extern "C" fn qb_record_write(message: &[u64; 13], out: &mut [u8]) -> Told
+pub extern "C" fn qb_record_write(message: &[u64; 13], out: &mut [u8]) -> ToldNumbers
     ensures { λ r. ⌜ WritesNumbers (now (message .entry)) (now (out .entry)) r (now (out .exit)) ⌝ }
 {
     let numbers = *message;

@@ -4,15 +4,15 @@ ghost use mathlib.Core.Bool.{true};
 ghost use Prim.Native.Nat.{_+_, _≤_};
 ghost use lib.ListN.{length};
 ghost use lib.Seq.{sets};
-ghost use Rattle.rules.specs.Clocks.{clockSound};
+ghost use Rattle.ground.specs.Clocks.{clockSound};
 ghost use Rattle.quynhabet.specs.Layout.{fourNumbers, fourAt, fourFits, slotFour, tokenFour, slotOf, tokenOf};
-use rules::clocks::DestinationClock;
-use rules::clocks::SourceClock;
+use ground::clocks::DestinationClock;
+use ground::clocks::SourceClock;
+use ground::limits::LAST_CLOCK;
 use rules::held::HeldSlot;
 use rules::held::HeldToken;
 use rules::held::Slot;
 use rules::held::Token;
-use rules::limits::LAST_CLOCK;
 
 pub(crate) struct Four {
     pub present: u64,

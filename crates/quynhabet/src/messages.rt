@@ -9,8 +9,8 @@ use crate::fours::slot_four;
 use crate::fours::slot_of;
 use crate::fours::token_four;
 use crate::fours::token_of;
-use rules::clocks::DestinationClock;
-use rules::clocks::SourceClock;
+use ground::clocks::DestinationClock;
+use ground::clocks::SourceClock;
 use rules::message::Message;
 
 pub(crate) fn message_fits(numbers: [u64; 13]) -> bool

@@ -1,24 +1,24 @@
 // The entry points on numbers by value: what is told, and the numbers that are then there.
 ghost use Rattle.quynhabet.specs.Exports.{Gives, outcomeBy, refusedBy, freshBy, addBy, drawBy, receiveBy, readBy};
-ghost use Rattle.rules.specs.Answers.{notSound};
+ghost use Rattle.ground.specs.Answers.{notSound};
 use crate::messages::message_numbers;
 use crate::stations::numbers_of;
 use crate::stations::station_fits;
 use crate::stations::station_of;
-use crate::told::Told;
+use crate::told::ToldNumbers;
 use crate::told::plain_told;
 use crate::told::told_of;
-use rules::answers::DONE;
-use rules::answers::NOT_SOUND;
+use ground::answers::DONE;
+use ground::answers::NOT_SOUND;
 use station::outcome::Outcome;
 
 pub(crate) struct Moved {
-    pub told: Told,
+    pub told: ToldNumbers,
     pub numbers: [u64; 134],
 }
 
 pub(crate) struct Taken {
-    pub told: Told,
+    pub told: ToldNumbers,
     pub numbers: [u64; 13],
 }
 

@@ -7,7 +7,7 @@ use rules::report::rules_of;
 // The answer, the result, and the report: the rules that acted as a sum of 1, 2, 4, 8, 16, the
 // quantity of a slot opened and that of a token made.
 #[repr(C)]
-pub struct Told {
+pub struct ToldNumbers {
     pub answer: u64,
     pub result: u64,
     pub rules: u64,
@@ -15,10 +15,10 @@ pub struct Told {
     pub made: u64,
 }
 
-pub(crate) fn told_of(answer: u8, result: u64, report: Report) -> Told
+pub(crate) fn told_of(answer: u8, result: u64, report: Report) -> ToldNumbers
     ensures { λ r. ⌜ r ≡ toldOf answer result report ⌝ }
 {
-    Told {
+    ToldNumbers {
         answer: answer as u64,
         result,
         rules: rules_of(report),
@@ -28,10 +28,10 @@ pub(crate) fn told_of(answer: u8, result: u64, report: Report) -> Told
 }
 
 // Where there is no report.
-pub(crate) fn plain_told(answer: u8, result: u64) -> Told
+pub(crate) fn plain_told(answer: u8, result: u64) -> ToldNumbers
     ensures { λ r. ⌜ r ≡ plainTold answer result ⌝ }
 {
-    Told {
+    ToldNumbers {
         answer: answer as u64,
         result,
         rules: 0,

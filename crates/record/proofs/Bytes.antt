@@ -10,7 +10,7 @@ use lib.ListN.{getD, set}
 use lib.Seq.{sets}
 use Rattle.record.specs.Numbers.{big, numberAt}
 use Rattle.record.proofs.Digits.{length-big}
-use Rattle.rules.proofs.Stores.{last-first}
+use Rattle.ground.proofs.Stores.{last-first}
 
 pub read-none : (bytes : List ℕ) (at : ℕ) → numberAt bytes at 0 ≡ 0
 unfolding numberAt

@@ -8,8 +8,8 @@ use native.Mathlib.Omega.{arith}
 use lib.Dec.{ltb, leb, eqb}
 use lib.ListN.{length}
 use borrow.Author.Tests.{ltb-true, ltb-false, lt-leb, le-leb}
-use Rattle.rules.specs.Limits.{lastClock, mostValue}
-use Rattle.rules.proofs.Below.{by-test}
+use Rattle.ground.specs.Limits.{lastClock, mostValue}
+use Rattle.ground.proofs.Tests.{by-test}
 use Rattle.record.specs.declared.fields.Cursor.{Cursor}
 use Rattle.record.specs.declared.front.Front.{Front}
 use Rattle.record.specs.Faults.{unsoundNumber}

@@ -9,16 +9,16 @@ use native.Mathlib.Omega.{arith}
 use lib.ListN.{length}
 use lib.Dec.{leb, ltb, eqb}
 use borrow.Author.Tests.{leb-true, ltb-true, le-leb}
-use Rattle.rules.specs.declared.clocks.SourceClock.{SourceClock}
-use Rattle.rules.specs.declared.clocks.DestinationClock.{DestinationClock}
+use Rattle.ground.specs.declared.clocks.SourceClock.{SourceClock}
+use Rattle.ground.specs.declared.clocks.DestinationClock.{DestinationClock}
 use Rattle.rules.specs.declared.held.HeldSlot.{HeldSlot}
 use Rattle.rules.specs.declared.held.HeldSlot.the-variants.{NoSlot, OneSlot}
 use Rattle.rules.specs.declared.held.HeldToken.{HeldToken}
 use Rattle.rules.specs.declared.held.HeldToken.the-variants.{NoToken, OneToken}
 use Rattle.rules.specs.declared.message.Message.{Message}
-use Rattle.rules.specs.Limits.{lastClock, mostValue}
+use Rattle.ground.specs.Limits.{lastClock, mostValue}
 use Rattle.station.specs.Sound.{slotSound, tokenSound, messageSound}
-use Rattle.rules.proofs.Below.{needed, by-test}
+use Rattle.ground.proofs.Tests.{needed, by-test}
 use Rattle.record.specs.declared.reading.Reading.{Reading}
 use Rattle.record.specs.Numbers.{Bytes}
 use Rattle.record.specs.Fields.{Body, missing, body, bodyAt, numberOf, bytesOf, Fill, May, Content, clear}
@@ -147,7 +147,7 @@ accepted bytes e = by (walk dateless bytes) refl where
 pub refused-whole : (bytes : List ℕ) → isRecord bytes ≡ false → readOf bytes ≡ noReading
 unfolding isRecord readOf walked
 refused-whole bytes e = by (walk dateless bytes) refl where
-  by : (w : Walk) → walk dateless bytes ≡ w → readingOf (walkedOf (walk dateless bytes) .answer) (walkedOf (walk dateless bytes)) ≡ noReading
+  by : (w : Walk) → walk dateless bytes ≡ w → readingOf (walkedOf (walk dateless bytes)) ≡ noReading
   by (going end bodies) f = let x : true ≡ false = rw f at e in let z : _≡_ {A = ℕ} 0 1 = cc in absurd (omega arith)
   by (stopped zero p) f = absurd (subst Sure f (sure bytes dateless (going 0 []) tt) refl)
   by (stopped (suc n) p) f = rw f

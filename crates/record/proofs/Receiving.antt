@@ -5,9 +5,9 @@ use mathlib.Core.List.{List}
 use mathlib.Core.Bool.{true, false}
 use Prim.Native.Nat.{ℕ}
 use Rattle.station.specs.declared.station.Station.{Station}
-use Rattle.rules.specs.Answers.{notSound, noRecord}
-use Rattle.rules.specs.Refusals.{answerOf}
-use Rattle.rules.proofs.Below.{by-test}
+use Rattle.ground.specs.Answers.{notSound, noRecord}
+use Rattle.ground.specs.Refusals.{answerOf}
+use Rattle.ground.proofs.Tests.{by-test}
 use Rattle.station.specs.declared.outcome.Outcome.{Outcome}
 use Rattle.station.specs.Outcome.{refused}
 use Rattle.station.specs.Sound.{stationSound}

@@ -1,16 +1,18 @@
 -- Writing the message that a station shows. Assumes nothing.
-use Prim.Native.Nat.{ℕ, zero, suc}
+use Prim.Native.Nat.{ℕ}
 use mathlib.Core.Path.{_≡_, refl, ap, sym, subst}
 use mathlib.Core.List.{List}
 use lib.ListN.{length}
 use borrow.Author.Tests.{lt-ltb, ne-eqb}
-use Rattle.rules.proofs.Refusing.{answer-before}
+use Rattle.ground.proofs.Refusing.{answer-before}
+use Rattle.ground.specs.declared.told.Told.{Told}
+use Rattle.ground.proofs.Choices.{when-refused}
 use Rattle.station.specs.declared.station.Station.{Station}
 use Rattle.station.specs.Steps.{showRefusals, showAnswer, showing, showOf, messageFor}
 use Rattle.station.proofs.Answering.{shown}
 use Rattle.station.proofs.Keeps.{message-sound}
 use Rattle.record.specs.Dateless.{recordOf}
-use Rattle.record.specs.Writing.{written, Writes, writeAnswer}
+use Rattle.record.specs.Writing.{inFront, Writes, writeAnswer}
 use Rattle.record.specs.AtStation.{roomRefusals, writeForAnswer, WritesFor}
 
 pub shows : (s : Station) (to : ℕ) → showAnswer s to ≡ 0 → showOf s to .message ≡ messageFor s to
@@ -18,8 +20,8 @@ unfolding showOf
 shows s to e = ap (λ (n : ℕ). showing n (messageFor s to) .message) e
 
 refusing : (n : ℕ) (bytes before : List ℕ) → (n ≡ 0 → ⊥) → Writes n bytes before (record { answer = n; result = 0 }) before
-refusing zero bytes before f = absurd (f refl)
-refusing (suc n) bytes before f = record { told = refl; buffer = refl }
+refusing n bytes before f =
+    record { told = ap (λ (k : ℕ). record { answer = n; result = k }) (when-refused n (length bytes) 0 f); buffer = when-refused n (inFront bytes before) before f }
 
 -- where nothing is shown, nothing is written
 pub writes-nothing : (s : Station) (to : ℕ) (before : List ℕ) → (showAnswer s to ≡ 0 → ⊥)
@@ -33,8 +35,3 @@ pub writes-shown : (s : Station) (to room : ℕ) → showAnswer s to ≡ 0 → w
 writes-shown s to room e =
     let p = shown s to e in
     rw (message-sound s to e, p .sound, lt-ltb to (s .count) (p .below), ne-eqb to (s .number) (p .other))
-
--- what is told of a writing is the answer that was found
-pub written-tells : (n : ℕ) (bytes : List ℕ) → written n bytes .answer ≡ n
-written-tells zero bytes = refl
-written-tells (suc n) bytes = refl

@@ -4,7 +4,7 @@ use mathlib.Core.Path.{_≡_}
 use mathlib.Core.Bool.{true, false}
 use lib.Dec.{leb, ltb, eqb}
 use borrow.Author.Tests.{leb-true, ltb-true, eqb-true}
-use Rattle.rules.proofs.Below.{needed}
+use Rattle.ground.proofs.Tests.{needed}
 
 pub at-most : (a b : ℕ) → (leb a b ≡ false → false ≡ true) → a ≤ b
 at-most a b f = leb-true a b (needed (leb a b) f)

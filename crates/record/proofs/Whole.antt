@@ -1,11 +1,12 @@
 -- The whole walk as the code makes it: fields 1 to 4, then 5, then 6, then the end. Assumes nothing.
-use Prim.Native.Nat.{ℕ, zero, suc}
+use Prim.Native.Nat.{ℕ}
 use mathlib.Core.Path.{_≡_, refl, ap, _∙_}
 use mathlib.Core.List.{List, [], _∷_, _++_}
 use mathlib.Core.Bool.{true, false}
 use lib.Dec.{eqb}
 use lib.ListN.{length}
 use borrow.Author.Tests.{eq-eqb, ne-eqb}
+use Rattle.ground.proofs.Choices.{when-done, when-refused}
 use Rattle.rules.specs.declared.held.HeldSlot.{HeldSlot}
 use Rattle.rules.specs.declared.held.HeldSlot.the-variants.{NoSlot, OneSlot}
 use Rattle.rules.specs.declared.held.HeldToken.{HeldToken}
@@ -19,7 +20,7 @@ use Rattle.record.specs.Faults.{extra}
 use Rattle.record.specs.Fields.{Body}
 use Rattle.record.specs.Walk.{Walk, going, stopped, step, ended, walkFrom, walk}
 use Rattle.record.specs.Dateless.{slotIn, tokenIn, slotField, tokenField, slotBody, tokenBody, dateless, messageIn}
-use Rattle.record.specs.Reading.{stood, endsWalk, frontWalk, frontBodies, SlotNext, TokenNext, stopsAt, walkedOf, walked, noReading, readingOf, readOf}
+use Rattle.record.specs.Reading.{stood, endsWalk, frontWalk, frontBodies, SlotNext, TokenNext, stopsAt, walkedOf, walked, noReading, readOf}
 use Rattle.record.proofs.Cursors.{stood-stops, stood-goes}
 
 pub slot-back : (h : HeldSlot) → slotIn (slotBody h) ≡ h
@@ -88,11 +89,8 @@ module _ (bytes : List ℕ) where
 module _ (bytes : List ℕ) (w : Walked) (is : w ≡ walked bytes) where
   pub refusing : (w .answer ≡ 0 → ⊥) → noReading ≡ readOf bytes
   unfolding readOf
-  refusing n = by (walked bytes .answer) refl where
-    by : (k : ℕ) → walked bytes .answer ≡ k → noReading ≡ readingOf (walked bytes .answer) (walked bytes)
-    by zero e = absurd (n (ap (λ (x : Walked). x .answer) is ∙ e))
-    by (suc k) e = rw e
+  refusing n = rw (← is) (when-refused (w .answer) _ noReading n)
 
   pub accepting : w .answer ≡ 0 → record { answer = 0; result = w .at; message = w .message } ≡ readOf bytes
   unfolding readOf
-  accepting e = rw (← is, e)
+  accepting e = rw (← is) (when-done _ noReading e)

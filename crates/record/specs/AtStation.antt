@@ -4,13 +4,13 @@ use mathlib.Core.Bool.{not}
 use mathlib.Core.List.{List, [], _∷_, _++_}
 use lib.Dec.{ltb, eqb}
 use lib.ListN.{length}
-use Rattle.rules.specs.Answers.{notSound, notBelowCount, noRecord, forAnother, shortBuffer}
-use Rattle.rules.specs.Refusals.{Refusal, when, answerOf}
+use Rattle.ground.specs.Answers.{notSound, notBelowCount, noRecord, forAnother, shortBuffer}
+use Rattle.ground.specs.Refusals.{Refusal, when, answerOf}
 use Rattle.station.specs.declared.station.Station.{Station}
 use Rattle.station.specs.declared.outcome.Outcome.{Outcome}
 use Rattle.station.specs.Sound.{stationSound}
 use Rattle.station.specs.Steps.{showRefusals, messageFor, endsBelow, fillRefusals, receiveOf}
-use Rattle.record.specs.declared.writing.Written.{Written}
+use Rattle.ground.specs.declared.told.Told.{Told}
 use Rattle.record.specs.Dateless.{recordOf}
 use Rattle.record.specs.Reading.{isRecord, readOf}
 use Rattle.record.specs.Writing.{Writes}
@@ -26,7 +26,7 @@ writeForRefusals s to room = showRefusals s to ++ roomRefusals s to room
 abbrev pub writeForAnswer : Station → ℕ → ℕ → ℕ
 writeForAnswer s to room = answerOf (writeForRefusals s to room)
 
-abbrev pub WritesFor : Station → ℕ → List ℕ → Written → List ℕ → Type 0
+abbrev pub WritesFor : Station → ℕ → List ℕ → Told → List ℕ → Type 0
 WritesFor s to before r after = Writes (writeForAnswer s to (length before)) (recordOf (messageFor s to)) before r after
 
 -- receiving bytes is reading them and then receiving that message

@@ -8,8 +8,8 @@ use Rattle.rules.specs.declared.held.HeldSlot.the-variants.{NoSlot, OneSlot}
 use Rattle.rules.specs.declared.held.HeldToken.{HeldToken}
 use Rattle.rules.specs.declared.held.HeldToken.the-variants.{NoToken, OneToken}
 use Rattle.rules.specs.declared.message.Message.{Message}
-use Rattle.rules.specs.Limits.{mostValue}
-use Rattle.rules.specs.Clocks.{clockSound}
+use Rattle.ground.specs.Limits.{mostValue}
+use Rattle.ground.specs.Clocks.{clockSound}
 use Rattle.station.specs.Sound.{slotSound, tokenSound}
 use Rattle.record.specs.Fields.{Body, missing, body, Field, required, optional, nth, bodyAt, numberOf, bytesOf}
 

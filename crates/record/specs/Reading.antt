@@ -5,11 +5,12 @@ use mathlib.Core.List.{List, [], _∷_, _++_}
 use mathlib.Core.Bool.{Bool, true, false, _&&_, not}
 use lib.Dec.{leb, eqb}
 use lib.ListN.{length}
-use Rattle.rules.specs.declared.clocks.SourceClock.{SourceClock}
-use Rattle.rules.specs.declared.clocks.DestinationClock.{DestinationClock}
-use Rattle.rules.specs.Answers.{done, noRecord}
+use Rattle.ground.specs.declared.clocks.SourceClock.{SourceClock}
+use Rattle.ground.specs.declared.clocks.DestinationClock.{DestinationClock}
+use Rattle.ground.specs.Choice.{ifDone}
+use Rattle.ground.specs.Answers.{done, noRecord}
 use Rattle.rules.specs.Message.{noMessage}
-use Rattle.rules.specs.Refusals.{Refusal, when}
+use Rattle.ground.specs.Refusals.{Refusal, when}
 use Rattle.record.specs.declared.fields.Line.{Line}
 use Rattle.record.specs.declared.fields.Cursor.{Cursor}
 use Rattle.record.specs.declared.front.Ends.{Ends}
@@ -103,12 +104,11 @@ abbrev pub noReading : Reading
 noReading = record { answer = noRecord; result = 0; message = noMessage }
 
 -- any fault is answer 9
-abbrev pub readingOf : ℕ → Walked → Reading
-readingOf zero w = record { answer = done; result = w .at; message = w .message }
-readingOf (suc n) w = noReading
+abbrev pub readingOf : Walked → Reading
+readingOf w = ifDone (w .answer) (record { answer = done; result = w .at; message = w .message }) noReading
 
 unfoldable pub readOf : List ℕ → Reading
-readOf bytes = readingOf (walked bytes .answer) (walked bytes)
+readOf bytes = readingOf (walked bytes)
 
 -- 9 where the bytes are no record
 abbrev pub readRefusals : List ℕ → List Refusal

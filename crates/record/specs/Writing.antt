@@ -1,5 +1,5 @@
 -- A message written into a lent buffer.
-use Prim.Native.Nat.{ℕ, zero, suc}
+use Prim.Native.Nat.{ℕ}
 use mathlib.Core.Path.{_≡_}
 use mathlib.Core.List.{List, [], _∷_, _++_}
 use mathlib.Core.Bool.{not}
@@ -8,10 +8,12 @@ use lib.ListN.{length, drop}
 use Rattle.rules.specs.declared.held.HeldSlot.{HeldSlot}
 use Rattle.rules.specs.declared.held.HeldToken.{HeldToken}
 use Rattle.rules.specs.declared.message.Message.{Message}
-use Rattle.rules.specs.Answers.{done, noRecord, shortBuffer}
+use Rattle.ground.specs.Answers.{noRecord, shortBuffer}
+use Rattle.ground.specs.Choice.{ifDone}
+use Rattle.ground.specs.Told.{toldWith}
+use Rattle.ground.specs.declared.told.Told.{Told}
 use Rattle.station.specs.Sound.{messageSound}
-use Rattle.rules.specs.Refusals.{Refusal, when, answerOf}
-use Rattle.record.specs.declared.writing.Written.{Written}
+use Rattle.ground.specs.Refusals.{Refusal, when, answerOf}
 use Rattle.record.specs.Fields.{tagged, fieldOf}
 use Rattle.record.specs.Dateless.{slotField, tokenField, slotBody, tokenBody, recordOf}
 
@@ -27,20 +29,15 @@ slotBytes h = fieldOf slotField (slotBody h)
 abbrev pub tokenBytes : HeldToken → List ℕ
 tokenBytes h = fieldOf tokenField (tokenBody h)
 
--- the result is the record's length; a refusal's is 0
-abbrev pub written : ℕ → List ℕ → Written
-written zero bytes = record { answer = done; result = length bytes }
-written (suc n) bytes = record { answer = suc n; result = 0 }
+-- the record in front, and every byte past it as it was
+abbrev pub inFront : List ℕ → List ℕ → List ℕ
+inFront bytes before = bytes ++ drop (length bytes) before
 
--- every byte past the record is as it was; a refusal leaves every byte
-abbrev pub left : ℕ → List ℕ → List ℕ → List ℕ
-left zero bytes before = bytes ++ drop (length bytes) before
-left (suc n) bytes before = before
-
--- writing these bytes with this answer: what is told, and what the buffer then holds
-pub record Writes (answer : ℕ) (bytes before : List ℕ) (r : Written) (after : List ℕ) : Type 0 where
-  pub told : r ≡ written answer bytes
-  pub buffer : after ≡ left answer bytes before
+-- Writing these bytes with this answer: what is told, where the result is the record's length, and
+-- what the buffer then holds. A refusal leaves every byte.
+pub record Writes (answer : ℕ) (bytes before : List ℕ) (r : Told) (after : List ℕ) : Type 0 where
+  pub told : r ≡ toldWith answer (length bytes)
+  pub buffer : after ≡ ifDone answer (inFront bytes before) before
 
 -- a given message: 9 where it is not sound, 14 where the buffer is shorter than its record
 abbrev pub writeRefusals : Message → ℕ → List Refusal
@@ -49,5 +46,5 @@ writeRefusals m room = when (not (messageSound m)) noRecord ∷ when (ltb room (
 abbrev pub writeAnswer : Message → ℕ → ℕ
 writeAnswer m room = answerOf (writeRefusals m room)
 
-abbrev pub WritesGiven : Message → List ℕ → Written → List ℕ → Type 0
+abbrev pub WritesGiven : Message → List ℕ → Told → List ℕ → Type 0
 WritesGiven m before r after = Writes (writeAnswer m (length before)) (recordOf m) before r after

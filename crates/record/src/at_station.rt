@@ -2,20 +2,20 @@
 ghost use mathlib.Core.Path.{_≡_};
 ghost use Rattle.record.specs.AtStation.{WritesFor, receiveBytesOf};
 use crate::reading::read;
-use crate::writing::Written;
 use crate::writing::write;
-use rules::answers::DONE;
+use ground::answers::DONE;
+use ground::told::Told;
 use station::outcome::Outcome;
 use station::station::Station;
 
 // Writes a station's message for another station: refused by 1, 2, 3, 14.
-pub fn write_message(s: Station, to: u64, buffer: &mut [u8]) -> Written
+pub fn write_message(s: Station, to: u64, buffer: &mut [u8]) -> Told
     ensures { λ r. ⌜ WritesFor s to (now (buffer .entry)) r (now (buffer .exit)) ⌝ }
 {
     let shown = station::message_for(s, to);
     let answer = shown.answer;
     if answer != DONE {
-        return Written { answer, result: 0 };
+        return Told { answer, result: 0 };
     }
     let message = shown.message;
     write(message, buffer)

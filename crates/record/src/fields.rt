@@ -6,7 +6,7 @@ use crate::faults::CUT;
 use crate::faults::OTHER_LENGTH;
 use crate::faults::OTHER_TAG;
 use crate::numbers::number_at;
-use rules::answers::DONE;
+use ground::answers::DONE;
 
 // A line of the table: tag, length, whether the field must be there, whether it is the last one.
 pub struct Line {

@@ -4,7 +4,7 @@ ghost use mathlib.Core.Bool.{false};
 ghost use mathlib.Core.List.{[]};
 ghost use Prim.Native.Nat.{_+_, _≤_};
 ghost use lib.ListN.{length};
-ghost use Rattle.rules.specs.Limits.{lastClock};
+ghost use Rattle.ground.specs.Limits.{lastClock};
 ghost use Rattle.record.specs.Numbers.{numberAt};
 ghost use Rattle.record.specs.Reading.{stood, endsWalk, endsBodies, noEnds, frontWalk, frontBodies, noFront};
 use crate::faults::UNSOUND_NUMBER;
@@ -14,10 +14,10 @@ use crate::table::CLOCKS;
 use crate::table::FROM;
 use crate::table::TO;
 use crate::table::VALUE;
-use rules::answers::DONE;
-use rules::clocks::DestinationClock;
-use rules::clocks::SourceClock;
-use rules::limits::MOST_VALUE;
+use ground::answers::DONE;
+use ground::clocks::DestinationClock;
+use ground::clocks::SourceClock;
+use ground::limits::MOST_VALUE;
 
 // 0 and the byte after field 2 with what was read, or a fault's number and its place.
 pub struct Ends {

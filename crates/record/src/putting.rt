@@ -8,8 +8,8 @@ ghost use Rattle.record.specs.Numbers.{big};
 ghost use Rattle.record.specs.Fields.{tagged};
 ghost use Rattle.record.specs.Writing.{slotBytes, tokenBytes};
 use crate::numbers::put_number;
-use rules::clocks::DestinationClock;
-use rules::clocks::SourceClock;
+use ground::clocks::DestinationClock;
+use ground::clocks::SourceClock;
 use rules::held::HeldSlot;
 use rules::held::HeldToken;
 

@@ -2,8 +2,8 @@
 ghost use mathlib.Core.Path.{_≡_};
 ghost use Rattle.record.specs.Reading.{readOf};
 use crate::walking::walk;
-use rules::answers::DONE;
-use rules::answers::NO_RECORD;
+use ground::answers::DONE;
+use ground::answers::NO_RECORD;
 use rules::message::Message;
 use rules::message::no_message;
 

@@ -5,7 +5,7 @@ use crate::faults::EXTRA;
 use crate::front::front_of;
 use crate::held::slot_after;
 use crate::held::token_after;
-use rules::answers::DONE;
+use ground::answers::DONE;
 use rules::message::Message;
 use rules::message::no_message;
 

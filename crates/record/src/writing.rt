@@ -9,19 +9,14 @@ use crate::putting::put_clocks_field;
 use crate::putting::put_field;
 use crate::putting::put_slot;
 use crate::putting::put_token;
-use rules::answers::DONE;
-use rules::answers::NO_RECORD;
-use rules::answers::SHORT_BUFFER;
+use ground::answers::DONE;
+use ground::answers::NO_RECORD;
+use ground::answers::SHORT_BUFFER;
+use ground::told::Told;
 use rules::held::HeldSlot;
 use rules::held::HeldToken;
 use rules::message::Message;
 use station::sound::message_is_sound;
-
-// The numbered answer and the record's length.
-pub struct Written {
-    pub answer: u8,
-    pub result: u64,
-}
 
 fn slot_size(slot: HeldSlot) -> usize
     ensures { λ r. ⌜ (r ≡ length (slotBytes slot)) × (r ≤ 19) ⌝ }
@@ -75,24 +70,24 @@ fn put_record(buffer: &mut [u8], m: Message)
 
 // A given message: refused by 9 where it is not sound, by 14 where the buffer is shorter than its
 // record.
-pub fn write(m: Message, buffer: &mut [u8]) -> Written
+pub fn write(m: Message, buffer: &mut [u8]) -> Told
     ensures { λ r. ⌜ WritesGiven m (now (buffer .entry)) r (now (buffer .exit)) ⌝ }
 {
     if !message_is_sound(m) {
-        return Written {
+        return Told {
             answer: NO_RECORD,
             result: 0,
         };
     }
     let size = record_size(m);
     if buffer.len() < size {
-        return Written {
+        return Told {
             answer: SHORT_BUFFER,
             result: 0,
         };
     }
     put_record(buffer, m);
-    Written {
+    Told {
         answer: DONE,
         result: size as u64,
     }

@@ -1,8 +1,8 @@
 -- The five rules one after the other. Assumes nothing.
 use Prim.Native.Nat.{ℕ}
 use mathlib.Core.Path.{_≡_, refl}
-use mathlib.Core.Bool.{Bool, true, false, cond}
 use lib.Dec.{ltb}
+use Rattle.ground.proofs.Choices.{chosen}
 use Rattle.rules.specs.declared.held.HeldSlot.{HeldSlot}
 use Rattle.rules.specs.declared.held.HeldSlot.the-variants.{NoSlot, OneSlot}
 use Rattle.rules.specs.declared.message.Message.{Message}
@@ -11,11 +11,6 @@ use Rattle.rules.specs.declared.rules.Ruled.{Ruled}
 use Rattle.rules.specs.Half.{halfAbove}
 use Rattle.rules.specs.Rules.{fill, dropSlot, dropSlotBy, openSlotBy, dropToken, makeToken}
 use Rattle.rules.specs.Taking.{reported, takeOf}
-
--- what holds of both ways of a choice, each under its test
-pub chosen : {A : Type 0} (P : A → Type 0) (t : Bool) (x y : A) → (t ≡ true → P x) → (t ≡ false → P y) → P (cond t x y)
-chosen P true x y f g = f refl
-chosen P false x y f g = g refl
 
 drop-slot-value-by : (x : Side) (m : Message) (h : HeldSlot) → dropSlotBy x m h .side .value ≡ x .value
 drop-slot-value-by x m NoSlot = refl

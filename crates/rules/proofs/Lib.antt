@@ -1,5 +1,3 @@
-pub mod Below
-pub mod Stores
 pub mod Signed
 pub mod Ruling
 pub mod InOrder

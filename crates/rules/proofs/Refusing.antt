@@ -1,10 +1,7 @@
 -- Answers looked for in order. Assumes nothing.
-use Prim.Native.Nat.{ℕ, zero, suc, _+_, _≤_}
+use Prim.Native.Nat.{ℕ, _+_, _≤_}
 use mathlib.Core.Path.{_≡_, refl, sym}
-use mathlib.Core.Bool.{Bool, true, false, cond, not}
-use mathlib.Core.Logic.{⊎-elim}
-use mathlib.Core.List.{List, [], _∷_, _++_, List·Memᴰ, List·Memᴰ·head, List·Memᴰ·tail, List·Memᴰ·cases-cons}
-use native.Mathlib.Omega.{arith}
+use mathlib.Core.Bool.{true, false, not}
 use lib.Dec.{ltb, leb}
 use borrow.Author.Tests.{leb-true, ltb-false, not-false}
 use Rattle.rules.specs.declared.held.HeldToken.{HeldToken}
@@ -13,60 +10,27 @@ use Rattle.rules.specs.declared.message.Message.{Message}
 use Rattle.rules.specs.declared.side.Side.{Side}
 use Rattle.rules.specs.declared.stock.Stock.{Stock}
 use Rattle.rules.specs.declared.taking.Taken.{Taken}
-use Rattle.rules.specs.Limits.{mostAmount, mostIntake, mostValue}
-use Rattle.rules.specs.Answers.{done, notSound, badAmount, tooFew}
-use Rattle.rules.specs.Report.{noReport}
-use Rattle.rules.specs.Refusals.{Refusal, first, answerOf, numbersIn}
+use Rattle.ground.specs.Limits.{mostAmount, mostIntake, mostValue}
+use Rattle.ground.specs.Answers.{notSound, badAmount, tooFew}
+use Rattle.ground.specs.Refusals.{answerOf}
 use Rattle.rules.specs.Rules.{fill}
-use Rattle.rules.specs.Taking.{tokenSmall, messageSmall, tokenFits, takeOf, takeRefusals, takeAnswer, takenBy, takenOf, Takes}
-use Rattle.rules.specs.Stock.{stockSound, amountSound, stocked, addToRefusals, addToAnswer, addDone, addedTo, drawFromRefusals, drawFromAnswer, drawDone, drawnFrom, refusedStock}
-use Rattle.rules.proofs.Below.{both-hold}
-
--- an answer of 0 has passed its first test
-pub passed : (t : Bool) (n : ℕ) {later : ℕ} → first t (suc n) later ≡ 0 → (t ≡ false) × (later ≡ 0)
-passed false n e = (refl, e)
-passed true n e = absurd (omega arith)
-
--- the answer is 0 or one of the numbers
-among-by : (t : Bool) (n : ℕ) {later : ℕ} {ns : List ℕ} → List·Memᴰ later (done ∷ ns) → List·Memᴰ (cond t n later) (done ∷ n ∷ ns)
-among-by true n m = List·Memᴰ·tail (List·Memᴰ·head refl)
-among-by false n m = ⊎-elim (λ e. List·Memᴰ·head e) (λ l. List·Memᴰ·tail (List·Memᴰ·tail l)) (List·Memᴰ·cases-cons m)
-
-pub answer-among : (rs : List Refusal) → List·Memᴰ (answerOf rs) (done ∷ numbersIn rs)
-answer-among [] = List·Memᴰ·head refl
-answer-among (r ∷ rs) = among-by (r .condition) (r .number) (answer-among rs)
-
--- what is refused by the first of some conditions is refused by those with more after them
-refused-before : (t : Bool) (n : ℕ) {a b : ℕ} → ((b ≡ 0 → ⊥) → a ≡ b) → (cond t n b ≡ 0 → ⊥) → cond t n a ≡ cond t n b
-refused-before true n same f = refl
-refused-before false n same f = same f
-
-pub answer-before : (xs ys : List Refusal) → (answerOf xs ≡ 0 → ⊥) → answerOf (xs ++ ys) ≡ answerOf xs
-answer-before [] ys f = absurd (f refl)
-answer-before (r ∷ rs) ys f = refused-before (r .condition) (r .number) (answer-before rs ys) f
+use Rattle.rules.specs.Taking.{tokenSmall, messageSmall, tokenFits, takeOf, takeRefusals, takeAnswer, takenOf, Takes}
+use Rattle.rules.specs.Stock.{stockSound, amountSound, addToRefusals, addToAnswer, addDone, addedTo, drawFromRefusals, drawFromAnswer, drawDone, drawnFrom, refusedStock}
+use Rattle.ground.proofs.Tests.{both-hold}
+use Rattle.ground.proofs.Refusing.{passed}
+use Rattle.ground.proofs.Choices.{when-done, answer-told}
 
 pub amount-small : (amount : ℕ) → amountSound amount ≡ true → amount ≤ mostAmount
 amount-small amount e = leb-true _ _ (both-hold (leb 1 amount) _ e .1)
 
-pub stock-done : {n : ℕ} (value intake : ℕ) (d : Stock) → n ≡ 0 → d ≡ stocked n value intake d
-stock-done value intake d e = rw e
-
-pub stock-refused : (n value intake : ℕ) (d : Stock) → (n ≡ 0 → ⊥) → refusedStock n value intake ≡ stocked n value intake d
-stock-refused zero value intake d f = absurd (f refl)
-stock-refused (suc n) value intake d f = refl
-
-stock-answer : (n value intake : ℕ) (d : Stock) → d .answer ≡ 0 → stocked n value intake d .answer ≡ n
-stock-answer zero value intake d e = e
-stock-answer (suc n) value intake d e = refl
-
 -- an add and a draw tell the answer that was found
 pub add-to-tells : (value intake amount : ℕ) → addedTo value intake amount .answer ≡ answerOf (addToRefusals value intake amount)
 unfolding addedTo
-add-to-tells value intake amount = stock-answer (addToAnswer value intake amount) value intake (addDone value intake amount) refl
+add-to-tells value intake amount = answer-told (λ (k : Stock). k .answer) (addToAnswer value intake amount) (addDone value intake amount) _ refl refl
 
 pub draw-from-tells : (value intake amount : ℕ) → drawnFrom value intake amount .answer ≡ answerOf (drawFromRefusals value intake amount)
 unfolding drawnFrom
-draw-from-tells value intake amount = stock-answer (drawFromAnswer value intake amount) value intake (drawDone value intake amount) refl
+draw-from-tells value intake amount = answer-told (λ (k : Stock). k .answer) (drawFromAnswer value intake amount) (drawDone value intake amount) _ refl refl
 
 -- a draw by what was found, the first of its refusals or none
 module _ (value intake amount : ℕ) where
@@ -87,25 +51,14 @@ module _ (value intake amount : ℕ) where
     unfolding drawnFrom
     draw-all a few = rw (s, a, few)
 
-pub taken-done : {n : ℕ} (x : Side) (t : Taken) → n ≡ 0 → t ≡ takenBy n x t
-taken-done x t e = rw e
-
-pub taken-refused : (n : ℕ) (x : Side) (t : Taken) → (n ≡ 0 → ⊥) → record { answer = n; result = 0; report = noReport; side = x } ≡ takenBy n x t
-taken-refused zero x t f = absurd (f refl)
-taken-refused (suc n) x t f = refl
-
-taken-answer : (n : ℕ) (x : Side) (t : Taken) → t .answer ≡ 0 → takenBy n x t .answer ≡ n
-taken-answer zero x t e = e
-taken-answer (suc n) x t e = refl
-
 -- what was taken tells the answer that was found
 pub take-tells : (x : Side) (m : Message) → takenOf x m .answer ≡ answerOf (takeRefusals x m)
 unfolding takenOf takeOf
-take-tells x m = taken-answer (takeAnswer x m) x (takeOf x m) refl
+take-tells x m = answer-told (λ (t : Taken). t .answer) (takeAnswer x m) (takeOf x m) _ refl refl
 
 pub take-done : (x : Side) (m : Message) → takeAnswer x m ≡ 0 → takenOf x m ≡ takeOf x m
 unfolding takenOf
-take-done x m e = sym (taken-done x (takeOf x m) e)
+take-done x m e = sym (when-done (takeOf x m) _ e)
 
 pub small-fits : (h : HeldToken) → tokenSmall h ≡ true → tokenFits h
 small-fits NoToken e = tt

@@ -1,10 +1,10 @@
 -- What each rule comes to, by what is held and shown and by its test. Assumes nothing.
 use Prim.Native.Nat.{ℕ, _+_, _-_, min}
 use mathlib.Core.Path.{_≡_}
-use mathlib.Core.Bool.{Bool, true, false, _&&_}
+use mathlib.Core.Bool.{true, false, _&&_}
 use lib.Dec.{eqb, ltb, leb}
-use Rattle.rules.specs.declared.clocks.SourceClock.{SourceClock}
-use Rattle.rules.specs.declared.clocks.DestinationClock.{DestinationClock}
+use Rattle.ground.specs.declared.clocks.SourceClock.{SourceClock}
+use Rattle.ground.specs.declared.clocks.DestinationClock.{DestinationClock}
 use Rattle.rules.specs.declared.held.Slot.{Slot}
 use Rattle.rules.specs.declared.held.Token.{Token}
 use Rattle.rules.specs.declared.held.HeldSlot.{HeldSlot}
@@ -13,8 +13,8 @@ use Rattle.rules.specs.declared.held.HeldToken.{HeldToken}
 use Rattle.rules.specs.declared.held.HeldToken.the-variants.{NoToken, OneToken}
 use Rattle.rules.specs.declared.message.Message.{Message}
 use Rattle.rules.specs.declared.side.Side.{Side}
-use Rattle.rules.specs.Limits.{lastClock}
-use Rattle.rules.specs.Clocks.{destinationAbove, sourceNext, destinationNext}
+use Rattle.ground.specs.Limits.{lastClock}
+use Rattle.ground.specs.Clocks.{destinationAbove, sourceNext, destinationNext}
 use Rattle.rules.specs.Side.{putValue, putSource, putDestination, putSlot, putToken}
 use Rattle.rules.specs.Rules.{acts, rests, agree, fillBy, dropSlotBy, openSlotBy, destinationShownBy, dropTokenBy, makeTokenBy}
 
@@ -86,7 +86,3 @@ module _ (m : Message) (clock : DestinationClock) where
 
   pub spent-by-slot : {h : HeldSlot} {l : Slot} → h ≡ OneSlot l → destinationAbove (l .destination) clock ≡ destinationAbove (destinationShownBy m h) clock
   spent-by-slot eh = rw eh
-
--- two tests joined, each known by what a call ensures
-pub both-tests : {a b c d : Bool} {t : Bool} → c ≡ a → d ≡ b → (c && d) ≡ t → (a && b) ≡ t
-both-tests ca db e = cc

@@ -6,7 +6,7 @@ use mathlib.Core.Bool.{_&&_}
 use native.Mathlib.Omega.{arith}
 use lib.Dec.{eqb, ltb}
 use borrow.Author.Tests.{ltb-false}
-use Rattle.rules.specs.declared.clocks.DestinationClock.{DestinationClock}
+use Rattle.ground.specs.declared.clocks.DestinationClock.{DestinationClock}
 use Rattle.rules.specs.declared.held.Slot.{Slot}
 use Rattle.rules.specs.declared.held.Token.{Token}
 use Rattle.rules.specs.declared.held.HeldSlot.{HeldSlot}
@@ -16,10 +16,10 @@ use Rattle.rules.specs.declared.held.HeldToken.the-variants.{NoToken, On
 use Rattle.rules.specs.declared.message.Message.{Message}
 use Rattle.rules.specs.declared.side.Side.{Side}
 use Rattle.rules.specs.declared.rules.Ruled.{Ruled}
-use Rattle.rules.specs.Limits.{lastClock}
+use Rattle.ground.specs.Limits.{lastClock}
 use Rattle.rules.specs.Rules.{fill, dropSlot, openSlot, destinationShownBy, destinationShown, dropTokenBy, makeTokenBy}
 use Rattle.rules.specs.Taking.{takeOf}
-use Rattle.rules.proofs.InOrder.{chosen}
+use Rattle.ground.proofs.Choices.{chosen}
 
 -- a held token that is not older than a clock
 abbrev NotOlder : DestinationClock → HeldToken → Type 0

@@ -1,10 +1,7 @@
--- Half of a difference, rounded down, and 0 where it is negative.
-use Prim.Native.Nat.{ℕ, _/_}
-use lib.IntN.{ℤ, pos, negsuc, _-ℤ_}
-
-abbrev pub halfOf : ℤ → ℕ
-halfOf (pos n) = n / 2
-halfOf (negsuc n) = 0
+-- Half of what another has more.
+use Prim.Native.Nat.{ℕ}
+use lib.IntN.{pos, _-ℤ_}
+use Rattle.ground.specs.Half.{halfOf}
 
 -- half of their value less ours
 abbrev pub halfAbove : ℕ → ℕ → ℕ

@@ -1,10 +1,5 @@
-pub mod Limits
-pub mod Answers
-pub mod Below
-pub mod Clocks
 pub mod Message
 pub mod Report
-pub mod Refusals
 pub mod Half
 pub mod Side
 pub mod Rules

@@ -2,7 +2,7 @@
 use Prim.Native.Nat.{ℕ, _+_, _-_, min}
 use mathlib.Core.Bool.{Bool, true, false, cond, _&&_}
 use lib.Dec.{eqb, ltb, leb}
-use Rattle.rules.specs.declared.clocks.DestinationClock.{DestinationClock}
+use Rattle.ground.specs.declared.clocks.DestinationClock.{DestinationClock}
 use Rattle.rules.specs.declared.held.Slot.{Slot}
 use Rattle.rules.specs.declared.held.Token.{Token}
 use Rattle.rules.specs.declared.held.HeldSlot.{HeldSlot}
@@ -12,8 +12,8 @@ use Rattle.rules.specs.declared.held.HeldToken.the-variants.{NoToken, On
 use Rattle.rules.specs.declared.message.Message.{Message}
 use Rattle.rules.specs.declared.side.Side.{Side}
 use Rattle.rules.specs.declared.rules.Ruled.{Ruled}
-use Rattle.rules.specs.Limits.{lastClock}
-use Rattle.rules.specs.Clocks.{sourceNext, destinationNext}
+use Rattle.ground.specs.Limits.{lastClock}
+use Rattle.ground.specs.Clocks.{sourceNext, destinationNext}
 use Rattle.rules.specs.Half.{halfAbove}
 use Rattle.rules.specs.Side.{putValue, putSource, putDestination, putSlot, putToken}
 

@@ -1,7 +1,7 @@
 -- A side with one part put anew.
 use Prim.Native.Nat.{ℕ}
-use Rattle.rules.specs.declared.clocks.SourceClock.{SourceClock}
-use Rattle.rules.specs.declared.clocks.DestinationClock.{DestinationClock}
+use Rattle.ground.specs.declared.clocks.SourceClock.{SourceClock}
+use Rattle.ground.specs.declared.clocks.DestinationClock.{DestinationClock}
 use Rattle.rules.specs.declared.held.HeldSlot.{HeldSlot}
 use Rattle.rules.specs.declared.held.HeldToken.{HeldToken}
 use Rattle.rules.specs.declared.side.Side.{Side}

@@ -1,13 +1,14 @@
 -- What an add and a draw do to a stock of passes: a value, and the intake, which is all that was
 -- ever added.
-use Prim.Native.Nat.{ℕ, zero, suc, _+_, _-_}
+use Prim.Native.Nat.{ℕ, _+_, _-_}
 use mathlib.Core.Bool.{Bool, not, _&&_}
 use mathlib.Core.List.{List, [], _∷_}
 use lib.Dec.{ltb, leb}
 use Rattle.rules.specs.declared.stock.Stock.{Stock}
-use Rattle.rules.specs.Limits.{mostAmount, mostIntake, mostValue}
-use Rattle.rules.specs.Answers.{done, notSound, badAmount, intakeLimit, valueLimit, tooFew}
-use Rattle.rules.specs.Refusals.{Refusal, when, answerOf}
+use Rattle.ground.specs.Limits.{mostAmount, mostIntake, mostValue}
+use Rattle.ground.specs.Answers.{done, notSound, badAmount, intakeLimit, valueLimit, tooFew}
+use Rattle.ground.specs.Refusals.{Refusal, when, answerOf}
+use Rattle.ground.specs.Choice.{ifDone}
 
 -- value and intake are in range
 abbrev pub stockSound : ℕ → ℕ → Bool
@@ -23,8 +24,7 @@ refusedStock answer value intake = record { answer = answer; result = 0; value =
 
 -- answer 0 is the stock as it then is; any other is a refusal
 abbrev pub stocked : ℕ → ℕ → ℕ → Stock → Stock
-stocked zero value intake later = later
-stocked (suc n) value intake later = refusedStock (suc n) value intake
+stocked answer value intake later = ifDone answer later (refusedStock answer value intake)
 
 -- Add raises value and intake. Result: the new value.
 abbrev pub addToRefusals : ℕ → ℕ → ℕ → List Refusal

@@ -1,5 +1,5 @@
 -- Taking a message: the five rules in order, each at what the earlier ones left.
-use Prim.Native.Nat.{ℕ, zero, suc, _≤_}
+use Prim.Native.Nat.{ℕ, _≤_}
 use mathlib.Core.Bool.{Bool, true, not, _&&_}
 use mathlib.Core.List.{List, [], _∷_}
 use lib.Dec.{ltb, leb}
@@ -9,10 +9,11 @@ use Rattle.rules.specs.declared.message.Message.{Message}
 use Rattle.rules.specs.declared.side.Side.{Side}
 use Rattle.rules.specs.declared.rules.Ruled.{Ruled}
 use Rattle.rules.specs.declared.taking.Taken.{Taken}
-use Rattle.rules.specs.Limits.{mostValue}
-use Rattle.rules.specs.Answers.{done, notSound, noRecord, valueLimit}
+use Rattle.ground.specs.Limits.{mostValue}
+use Rattle.ground.specs.Answers.{done, notSound, noRecord, valueLimit}
 use Rattle.rules.specs.Report.{noReport}
-use Rattle.rules.specs.Refusals.{Refusal, when, answerOf}
+use Rattle.ground.specs.Refusals.{Refusal, when, answerOf}
+use Rattle.ground.specs.Choice.{ifDone}
 use Rattle.rules.specs.Rules.{fill, dropSlot, openSlot, dropToken, makeToken}
 
 -- the result is the amount filled; the report says which rules acted, and the quantities of a slot
@@ -63,14 +64,12 @@ takeRefusals x m =
 abbrev pub takeAnswer : Side → Message → ℕ
 takeAnswer x m = answerOf (takeRefusals x m)
 
--- answer 0 is what the rules did; any other is a refusal, with result 0, no rule named, and the
--- side as it was
-abbrev pub takenBy : ℕ → Side → Taken → Taken
-takenBy zero x t = t
-takenBy (suc n) x t = record { answer = suc n; result = 0; report = noReport; side = x }
+-- a refusal has result 0, no rule named, and the side as it was
+abbrev pub refusedTaking : ℕ → Side → Taken
+refusedTaking answer x = record { answer = answer; result = 0; report = noReport; side = x }
 
 unfoldable pub takenOf : Side → Message → Taken
-takenOf x m = takenBy (takeAnswer x m) x (takeOf x m)
+takenOf x m = ifDone (takeAnswer x m) (takeOf x m) (refusedTaking (takeAnswer x m) x)
 
 -- the same range, as what the sums and differences of the rules ask for
 abbrev pub tokenFits : HeldToken → Type 0

@@ -1,6 +1,6 @@
 // A slot and a token, and what may be held of each.
-use crate::clocks::DestinationClock;
-use crate::clocks::SourceClock;
+use ground::clocks::DestinationClock;
+use ground::clocks::SourceClock;
 
 // What a station asks of another: opened by rule 3.
 pub struct Slot {

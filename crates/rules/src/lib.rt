@@ -1,11 +1,7 @@
-// The ground that a station stands on, and the five rules of receiving: numbered answers, clocks,
-// slots, tokens, messages, what the rules see of a station and what they do to it, and what an add
-// and a draw do to a stock of passes.
-pub mod answers;
-pub mod clocks;
+// The five rules of receiving: slots, tokens, messages, what the rules see of a station and what
+// they do to it, and what an add and a draw do to a stock of passes.
 mod half;
 pub mod held;
-pub mod limits;
 pub mod message;
 pub mod report;
 pub mod rules;

@@ -1,10 +1,10 @@
 // What one station shows another.
 ghost use mathlib.Core.Path.{_≡_};
 ghost use Rattle.rules.specs.Message.{noMessage};
-use crate::clocks::DestinationClock;
-use crate::clocks::SourceClock;
 use crate::held::HeldSlot;
 use crate::held::HeldToken;
+use ground::clocks::DestinationClock;
+use ground::clocks::SourceClock;
 
 pub struct Message {
     pub from: usize,

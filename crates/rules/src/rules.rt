@@ -1,8 +1,8 @@
 // The five rules of receiving, in order, on the side of a station that is turned to the sender.
 ghost use mathlib.Core.Path.{_≡_};
 ghost use Prim.Native.Nat.{_+_, _≤_, _<_, min};
-ghost use Rattle.rules.specs.Limits.{mostValue};
-ghost use Rattle.rules.specs.Clocks.{destinationAbove};
+ghost use Rattle.ground.specs.Limits.{mostValue};
+ghost use Rattle.ground.specs.Clocks.{destinationAbove};
 ghost use Rattle.rules.specs.Rules.{acts, rests, agree, fill, dropSlot, openSlotBy, destinationShown, dropToken, makeToken};
 ghost use Rattle.rules.specs.Taking.{tokenFits};
 use crate::held::HeldSlot;

@@ -2,11 +2,11 @@
 // ever added.
 ghost use mathlib.Core.Path.{_≡_};
 ghost use Rattle.rules.specs.Stock.{stockSound, amountSound, refusedStock, addToAnswer, addedTo, drawnFrom};
-use crate::answers;
-use crate::limits::MOST_AMOUNT;
-use crate::limits::MOST_INTAKE;
-use crate::limits::MOST_VALUE;
 use crate::rules::smaller;
+use ground::answers;
+use ground::limits::MOST_AMOUNT;
+use ground::limits::MOST_INTAKE;
+use ground::limits::MOST_VALUE;
 
 pub struct Stock {
     pub answer: u8,

@@ -1,10 +1,8 @@
 // Taking a message: the five rules in order, each at what the earlier ones left.
 ghost use mathlib.Core.Path.{_≡_};
 ghost use Rattle.rules.specs.Taking.{tokenSmall, takeAnswer, takeOf, takenOf, Takes};
-use crate::answers;
 use crate::half::half_above;
 use crate::held::HeldToken;
-use crate::limits::MOST_VALUE;
 use crate::message::Message;
 use crate::report::Report;
 use crate::report::no_report;
@@ -14,6 +12,8 @@ use crate::rules::rule3_open_slot;
 use crate::rules::rule4_drop_token;
 use crate::rules::rule5_make_token;
 use crate::side::Side;
+use ground::answers;
+use ground::limits::MOST_VALUE;
 
 // The numbered answer, the amount filled, the report, and the side that the rules left.
 pub struct Taken {

@@ -3,7 +3,7 @@
 -- Assumes nothing.
 use mathlib.Core.Path.{_≡_, refl, ap, sym}
 use mathlib.Core.Bool.{false≢true}
-use Rattle.rules.specs.Below.{allBelow}
+use Rattle.ground.specs.Below.{allBelow}
 use Rattle.station.specs.Sound.{stationSound, messageSound}
 use Rattle.rules.specs.Taking.{takeOf}
 use Rattle.station.specs.Steps.{addOf, showOf, receiveOf}
@@ -11,7 +11,7 @@ use Rattle.table.specs.Fresh.{seatsTo, freshOf}
 use Rattle.table.specs.Sound.{tableSound}
 use Rattle.steps.specs.Steps.{stepOf}
 use Rattle.table.specs.Table.{stationAt, waitingAt}
-use Rattle.pool.specs.Pool.{firstFrom}
+use Rattle.ground.specs.First.{firstFrom}
 use Rattle.pool.specs.declared.places.Waiting.the-variants.{One}
 use Rattle.steps.specs.declared.asked.Step.the-variants.{Deliver}
 use Rattle.table.specs.declared.stepped.Stepped.{Stepped}

@@ -9,13 +9,14 @@ use native.Mathlib.Omega.{arith}
 use lib.Dec.{eqb}
 use lib.ListN.{getD}
 use borrow.Author.Tests.{eqb-true}
-use Rattle.rules.proofs.Below.{all-at}
+use Rattle.ground.proofs.Below.{all-at}
 use Rattle.steps.specs.declared.asked.Step.{Step}
 use Rattle.table.specs.declared.table.Table.{Table}
 use Rattle.runs.specs.Runs.{Build}
 use Rattle.runs.specs.Clauses.{Clause, passes, departed-before, one-departure, one-arrival, way, sound, answers, stale, says, FailsAlone}
 use Rattle.runs.specs.Tested.{test, clauses, placeOf, othersTest}
-use Rattle.runs.proofs.Tested.{other-one, tested}
+use Rattle.ground.proofs.Tests.{other-one}
+use Rattle.runs.proofs.Tested.{tested}
 
 listed : (clause : Clause) → getD clauses (placeOf clause) stale ≡ clause
 listed passes = refl

@@ -12,10 +12,10 @@ use Rattle.handshake.specs.History.{Transfer, transfer, Entry, arrival, at, In}
 use Rattle.handshake.proofs.Histories.{in-either}
 use Rattle.handshake.proofs.Keeps.{not-both, same-one, stale-spent}
 use Rattle.handshake.proofs.Passages.{SpentIn}
-use Rattle.rules.specs.Answers.{done}
+use Rattle.ground.specs.Answers.{done}
 use Rattle.station.specs.Held.{slotFor, tokenFor}
 use Rattle.station.specs.Sound.{countSound}
-use Rattle.rules.proofs.Below.{needed}
+use Rattle.ground.proofs.Tests.{needed}
 use Rattle.rules.specs.declared.held.HeldToken.the-variants.{OneToken}
 use Rattle.rules.specs.declared.held.Token.{Token}
 use Rattle.table.specs.Fresh.{freshOf}

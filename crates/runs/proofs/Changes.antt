@@ -10,8 +10,8 @@ use Rattle.handshake.specs.History.{Entry, departed, arrived}
 use Rattle.handshake.specs.Web.{Web, Letter, Present}
 use Rattle.handshake.proofs.Ends.{end-same}
 use Rattle.handshake.proofs.Passages.{Passage, rest}
-use Rattle.handshake.proofs.Sums.{sum-term}
-use Rattle.rules.specs.Limits.{mostValue}
+use Rattle.ground.proofs.Sums.{sum-term}
+use Rattle.ground.specs.Limits.{mostValue}
 use Rattle.rules.specs.Rules.{fill}
 use Rattle.station.specs.Side.{sideFor, putSide}
 use Rattle.station.specs.Steps.{putStock}
@@ -19,7 +19,7 @@ use Rattle.rules.specs.Taking.{takeOf}
 use Rattle.rules.specs.declared.message.Message.{Message}
 use Rattle.rules.specs.declared.side.Side.{Side}
 use Rattle.station.specs.declared.station.Station.{Station}
-use Rattle.rules.proofs.Stores.{stored}
+use Rattle.ground.proofs.Stores.{stored}
 use Rattle.table.specs.Table.{stationAt, waitingAt, putStation, putPlace}
 use Rattle.pool.specs.declared.places.Place.{Place}
 use Rattle.pool.specs.declared.places.Waiting.{Waiting}

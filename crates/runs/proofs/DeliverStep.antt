@@ -7,10 +7,10 @@ use native.Mathlib.Omega.{arith}
 use lib.Dec.{ltb}
 use borrow.Author.Tests.{ltb-true, le-ltb, not-false}
 use Rattle.handshake.specs.History.{Entry}
-use Rattle.rules.specs.Limits.{mostValue}
-use Rattle.rules.specs.Refusals.{when, answerOf}
+use Rattle.ground.specs.Limits.{mostValue}
+use Rattle.ground.specs.Refusals.{when, answerOf}
 use Rattle.rules.specs.Rules.{fill}
-use Rattle.rules.proofs.Refusing.{passed}
+use Rattle.ground.proofs.Refusing.{passed}
 use Rattle.station.specs.Side.{sideFor}
 use Rattle.station.proofs.Parts.{message-parts}
 use Rattle.pool.specs.Pool.{mostPlaces, isEmpty}

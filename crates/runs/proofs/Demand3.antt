@@ -4,7 +4,7 @@ use Prim.Native.Nat.{ℕ}
 use mathlib.Core.Path.{_≡_}
 use mathlib.Core.List.{List}
 use Rattle.handshake.specs.History.{Entry}
-use Rattle.rules.specs.Answers.{done}
+use Rattle.ground.specs.Answers.{done}
 use Rattle.table.specs.Fresh.{freshOf}
 use Rattle.steps.specs.Steps.{stepOf}
 use Rattle.steps.specs.declared.asked.Step.{Step}

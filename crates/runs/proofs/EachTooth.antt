@@ -7,12 +7,12 @@ use mathlib.Core.List.{List, _++_}
 use native.Mathlib.Omega.{arith}
 use borrow.Author.Tests.{eqb-false}
 use Rattle.handshake.specs.History.{at, transfer, departed, arrived}
-use Rattle.handshake.specs.Sums.{sumBelow}
-use Rattle.rules.specs.Below.{allBelow}
+use Rattle.ground.specs.Sums.{sumBelow}
+use Rattle.ground.specs.Below.{allBelow}
 use Rattle.station.specs.Sound.{stationSound, messageSound}
 use Rattle.rules.specs.Taking.{takeOf}
 use Rattle.station.specs.Steps.{addOf, drawOf, showOf, receiveOf}
-use Rattle.pool.specs.Pool.{firstFrom}
+use Rattle.ground.specs.First.{firstFrom}
 use Rattle.table.specs.Sound.{tableSound}
 use Rattle.table.specs.Fresh.{seatsTo, freshOf}
 use Rattle.steps.specs.declared.asked.Step.{Step}

@@ -7,10 +7,10 @@ use mathlib.Core.List.{[]}
 use native.Mathlib.Omega.{arith}
 use lib.ListN.{getD, replicate}
 use Rattle.handshake.specs.History.{departed, arrived}
-use Rattle.handshake.proofs.Sums.{sum-nothing, pairs-nothing}
+use Rattle.ground.proofs.Sums.{sum-nothing, pairs-nothing}
 use Rattle.handshake.proofs.Webs.{fresh-web}
 use Rattle.station.specs.Held.{noSlot, noToken, slotFor, tokenFor}
-use Rattle.rules.specs.Limits.{mostStations}
+use Rattle.ground.specs.Limits.{mostStations}
 use Rattle.station.specs.Sound.{countSound}
 use Rattle.station.specs.Steps.{blank}
 use Rattle.rules.specs.declared.held.HeldSlot.the-variants.{NoSlot}
@@ -19,7 +19,7 @@ use Rattle.station.specs.declared.held.SlotCell.{SlotCell}
 use Rattle.station.specs.declared.held.TokenCell.{TokenCell}
 use Rattle.rules.specs.declared.message.Message.{Message}
 use Rattle.station.specs.declared.station.Station.{Station}
-use Rattle.rules.proofs.Stores.{stored}
+use Rattle.ground.proofs.Stores.{stored}
 use Rattle.table.specs.Fresh.{seatsTo, blankTable, freshOf}
 use Rattle.pool.specs.Pool.{mostPlaces}
 use Rattle.table.specs.Table.{stationAt, waitingAt}

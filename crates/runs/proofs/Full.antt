@@ -3,12 +3,12 @@
 use Prim.Native.Nat.{ℕ, _<_}
 use mathlib.Core.Path.{_≡_, _∙_}
 use lib.ListN.{length, length-set}
-use Rattle.rules.specs.Limits.{mostStations}
+use Rattle.ground.specs.Limits.{mostStations}
 use Rattle.station.specs.Side.{putSide}
 use Rattle.station.specs.Steps.{putStock}
 use Rattle.rules.specs.declared.side.Side.{Side}
 use Rattle.station.specs.declared.station.Station.{Station}
-use Rattle.rules.proofs.Stores.{stored}
+use Rattle.ground.proofs.Stores.{stored}
 use Rattle.pool.specs.Pool.{mostPlaces}
 use Rattle.table.specs.Table.{stationAt, putStation, putPlace}
 use Rattle.pool.specs.declared.places.Waiting.{Waiting}

@@ -6,10 +6,10 @@ use native.Mathlib.Omega.{arith}
 use native.Mathlib.Nat.{add-zero}
 use lib.Dec.{eqb, ltb, leb}
 use Rattle.rules.specs.Half.{halfAbove}
-use Rattle.rules.specs.Limits.{lastClock}
+use Rattle.ground.specs.Limits.{lastClock}
 use Rattle.rules.specs.Rules.{agree, fillBy, dropSlotBy, openSlotBy, destinationShown, dropTokenBy, makeTokenBy, fill, dropSlot, openSlot, dropToken, makeToken}
 use Rattle.rules.specs.Taking.{takeOf}
-use Rattle.rules.specs.declared.clocks.DestinationClock.{DestinationClock}
+use Rattle.ground.specs.declared.clocks.DestinationClock.{DestinationClock}
 use Rattle.rules.specs.declared.held.HeldSlot.{HeldSlot}
 use Rattle.rules.specs.declared.held.HeldSlot.the-variants.{NoSlot, OneSlot}
 use Rattle.rules.specs.declared.held.HeldToken.{HeldToken}
@@ -17,7 +17,7 @@ use Rattle.rules.specs.declared.held.HeldToken.the-variants.{NoToken, OneToken}
 use Rattle.rules.specs.declared.message.Message.{Message}
 use Rattle.rules.specs.declared.rules.Ruled.{Ruled}
 use Rattle.rules.specs.declared.side.Side.{Side}
-use Rattle.rules.proofs.InOrder.{chosen}
+use Rattle.ground.proofs.Choices.{chosen}
 
 -- rules 1 to 3 are the receiver's: they leave what it gives
 pub record Takes (x y : Side) : Type 0 where

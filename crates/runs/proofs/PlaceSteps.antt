@@ -9,7 +9,7 @@ use lib.Dec.{ltb, eqb}
 use Rattle.handshake.specs.History.{Entry}
 use Rattle.handshake.specs.Web.{Present}
 use Rattle.rules.specs.declared.message.Message.{Message}
-use Rattle.rules.specs.Refusals.{answerOf}
+use Rattle.ground.specs.Refusals.{answerOf}
 use Rattle.station.specs.Steps.{messageFor}
 use Rattle.pool.specs.Pool.{mostPlaces, isEmpty, lowestEmpty}
 use Rattle.table.specs.Table.{stationAt, waitingAt}

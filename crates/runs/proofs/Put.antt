@@ -2,12 +2,10 @@
 use Prim.Native.Nat.{ℕ, _<_}
 use mathlib.Core.Path.{_≡_, refl, _∙_, ap}
 use mathlib.Core.Bool.{Bool, true, false, cond, _&&_}
-use mathlib.Core.List.{List}
-use native.Mathlib.Decide.{ℕ-discrete}
 use lib.Dec.{eqb}
-use lib.ListN.{getD, set, length}
+use lib.ListN.{length}
 use lib.Seq.{getD-set-same, getD-set-other}
-use borrow.Author.Tests.{eq-eqb, ne-eqb, eqb-true}
+use borrow.Author.Tests.{eqb-true}
 use Rattle.handshake.specs.Web.{withEnd}
 use Rattle.station.specs.Held.{noSlot, noToken, slotFor, tokenFor}
 use Rattle.station.specs.Side.{putSide}
@@ -16,18 +14,11 @@ use Rattle.station.specs.declared.held.SlotCell.{SlotCell}
 use Rattle.station.specs.declared.held.TokenCell.{TokenCell}
 use Rattle.rules.specs.declared.side.Side.{Side}
 use Rattle.station.specs.declared.station.Station.{Station}
-use Rattle.rules.proofs.Stores.{stored}
+use Rattle.ground.proofs.Stores.{stored, at-put}
+use Rattle.ground.proofs.Choices.{made-of-choice}
 use Rattle.table.specs.Table.{stationAt, putStation}
 use Rattle.table.specs.declared.table.Table.{Table}
 use Rattle.runs.proofs.Seen.{slotSeen, tokenSeen, channelOf, webOf, endOf}
-
--- after a store at k there stands at j the stored one, or the one that was there
-pub at-put : {A : Type 0} (xs : List A) (k j : ℕ) (v d : A) → k < length xs → getD (set xs k v) j d ≡ cond (eqb j k) v (getD xs j d)
-at-put {A} xs k j v d h = by (ℕ-discrete j k)
-  where
-    by : Dec (j ≡ k) → getD (set xs k v) j d ≡ cond (eqb j k) v (getD xs j d)
-    by (yes e) = rw (eq-eqb j k e, e) (getD-set-same xs k v d h)
-    by (no n) = rw (ne-eqb j k n) (getD-set-other xs k j v d n)
 
 pub seat-here : (t : Table) (k : ℕ) (s : Station) → k < length (t .stations) → stationAt (putStation t k s) k ≡ s
 seat-here t k s h = getD-set-same (t .stations) k s _ h
@@ -35,16 +26,12 @@ seat-here t k s h = getD-set-same (t .stations) k s _ h
 pub seat-else : (t : Table) (k a : ℕ) (s : Station) → (a ≡ k → ⊥) → stationAt (putStation t k s) a ≡ stationAt t a
 seat-else t k a s n = getD-set-other (t .stations) k a s _ n
 
-under : {A B : Type 0} (f : A → B) (b : Bool) (x y : A) → f (cond b x y) ≡ cond b (f x) (f y)
-under f true x y = refl
-under f false x y = refl
-
 module _ (s : Station) (j : ℕ) (x : Side) where
   pub slot-put : (k : ℕ) → j < length (s .slots) → slotSeen (slotFor (putSide s j x) k) ≡ cond (eqb k j) (slotSeen (x .slot)) (slotSeen (slotFor s k))
-  slot-put k h = ap (λ (y : SlotCell). slotSeen (y .held)) (at-put (s .slots) j k (record { held = x .slot }) noSlot h) ∙ under (λ (y : SlotCell). slotSeen (y .held)) (eqb k j) _ _
+  slot-put k h = ap (λ (y : SlotCell). slotSeen (y .held)) (at-put (s .slots) j k (record { held = x .slot }) noSlot h) ∙ made-of-choice (λ (y : SlotCell). slotSeen (y .held)) (eqb k j) _ _
 
   pub token-put : (k : ℕ) → j < length (s .tokens) → tokenSeen (tokenFor (putSide s j x) k) ≡ cond (eqb k j) (tokenSeen (x .token)) (tokenSeen (tokenFor s k))
-  token-put k h = ap (λ (y : TokenCell). tokenSeen (y .held)) (at-put (s .tokens) j k (record { held = x .token }) noToken h) ∙ under (λ (y : TokenCell). tokenSeen (y .held)) (eqb k j) _ _
+  token-put k h = ap (λ (y : TokenCell). tokenSeen (y .held)) (at-put (s .tokens) j k (record { held = x .token }) noToken h) ∙ made-of-choice (λ (y : TokenCell). tokenSeen (y .held)) (eqb k j) _ _
 
 -- a station with another side for j, at number i
 module _ (t : Table) (i j : ℕ) (x : Side) (here : i < length (t .stations)) (slots : j < length (stationAt t i .slots)) (tokens : j < length (stationAt t i .tokens)) where

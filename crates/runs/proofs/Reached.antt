@@ -7,15 +7,15 @@ use mathlib.Core.List.{List, _++_}
 use mathlib.Core.Logic.{_⊎_}
 use native.Mathlib.Omega.{arith}
 use lib.ListN.{length}
-use Rattle.handshake.specs.Sums.{sumBelow}
+use Rattle.ground.specs.Sums.{sumBelow}
 use Rattle.handshake.specs.History.{Entry, departed, arrived}
 use Rattle.handshake.specs.Web.{Letter, Holds, Present, onAllWays, weigh}
 use Rattle.handshake.proofs.Histories.{departed-both, arrived-both}
 use Rattle.handshake.proofs.Passages.{Passage}
-use Rattle.handshake.proofs.Sums.{sum-one, sum-most, pairs-same}
+use Rattle.ground.proofs.Sums.{sum-one, sum-most, pairs-same}
 use Rattle.handshake.proofs.Webs.{waits-keep}
 use Rattle.station.specs.Held.{slotFor, tokenFor}
-use Rattle.rules.specs.Limits.{mostIntake, mostValue}
+use Rattle.ground.specs.Limits.{mostIntake, mostValue}
 use Rattle.rules.specs.declared.held.HeldSlot.{HeldSlot}
 use Rattle.rules.specs.declared.held.HeldSlot.the-variants.{NoSlot, OneSlot}
 use Rattle.rules.specs.declared.held.HeldToken.{HeldToken}

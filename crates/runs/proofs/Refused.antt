@@ -8,7 +8,7 @@ use native.Mathlib.Omega.{arith}
 use lib.Dec.{eqb}
 use borrow.Author.Tests.{eq-eqb, ne-eqb}
 use Rattle.handshake.specs.History.{Entry}
-use Rattle.rules.specs.Answers.{notSound, valueLimit}
+use Rattle.ground.specs.Answers.{notSound, valueLimit}
 use Rattle.rules.specs.Report.{noReport}
 use Rattle.rules.specs.declared.held.HeldSlot.{HeldSlot}
 use Rattle.rules.specs.declared.held.HeldSlot.the-variants.{NoSlot, OneSlot}

@@ -7,8 +7,8 @@ use mathlib.Core.Bool.{Bool, true, false, cond, not}
 use mathlib.Core.List.{List, [], _∷_, map}
 use lib.Dec.{ltb}
 use Rattle.handshake.specs.History.{departure, transfer}
-use Rattle.handshake.specs.Sums.{sumBelow}
-use Rattle.rules.specs.Below.{allBelow}
+use Rattle.ground.specs.Sums.{sumBelow}
+use Rattle.ground.specs.Below.{allBelow}
 use Rattle.station.specs.Sound.{stationSound, messageSound}
 use Rattle.rules.specs.Stock.{amountSound}
 use Rattle.rules.specs.Taking.{takeOf}
@@ -19,7 +19,7 @@ use Rattle.steps.specs.declared.asked.Step.{Step}
 use Rattle.steps.specs.declared.asked.Step.the-variants.{Add, Draw, Send, Deliver, Lose}
 use Rattle.table.specs.declared.stepped.Stepped.{Stepped}
 use Rattle.table.specs.declared.table.Table.{Table}
-use Rattle.pool.specs.Pool.{firstFrom}
+use Rattle.ground.specs.First.{firstFrom}
 use Rattle.table.specs.Table.{stationAt, waitingAt}
 use Rattle.table.specs.Sound.{tableSound}
 use Rattle.table.specs.Fresh.{seatsTo, freshOf}

@@ -12,13 +12,14 @@ use Rattle.handshake.specs.Clauses.{Standing, GiverShows, ReceiverShows}
 use Rattle.handshake.specs.Turn.{Turn}
 use Rattle.handshake.proofs.Keeps.{not-both, same-one}
 use Rattle.handshake.proofs.Rules.{rests, fills, drops-slot, opens-slot, drops-token, makes-token}
-use Rattle.rules.specs.Limits.{lastClock}
+use Rattle.ground.specs.Limits.{lastClock}
 use Rattle.rules.specs.Rules.{acts, agree, fillBy, dropSlotBy, openSlotBy, destinationShownBy, dropTokenBy, makeTokenBy, give, rests as restsAt}
 use Rattle.rules.specs.Side.{putValue, putSlot, putToken, putDestination}
-use Rattle.rules.specs.Clocks.{destinationNext}
-use Rattle.rules.proofs.Below.{both-hold}
-use Rattle.rules.proofs.InOrder.{chosen}
-use Rattle.rules.specs.declared.clocks.DestinationClock.{DestinationClock}
+use Rattle.ground.specs.Clocks.{destinationNext}
+use Rattle.ground.proofs.Onward.{source-next, destination-next}
+use Rattle.ground.proofs.Tests.{both-hold}
+use Rattle.ground.proofs.Choices.{chosen}
+use Rattle.ground.specs.declared.clocks.DestinationClock.{DestinationClock}
 use Rattle.rules.specs.declared.held.HeldSlot.{HeldSlot}
 use Rattle.rules.specs.declared.held.HeldSlot.the-variants.{NoSlot, OneSlot}
 use Rattle.rules.specs.declared.held.HeldToken.{HeldToken}
@@ -92,14 +93,17 @@ module _ (source : ℕ) (token : Option (Held ℕ)) where
       → GiverShows (inward x source token) (m .source .0) (tokenSeen (m .token))
       → Turn (inward x source token) (inward (openSlotBy x m q h .side) source token) quiet
   open-slot-turns x m q (OneSlot l) e stands shows = nothing-in x
-  open-slot-turns x m q NoSlot e stands shows = by (leb 1 q && ltb (x .destination .0) lastClock)
+  open-slot-turns x m q NoSlot e stands shows = by (leb 1 q && ltb (x .destination .0) lastClock) refl
     where
       opened : Side
       opened = putDestination (putSlot x (OneSlot (record { source = m .source; destination = x .destination; quantity = q }))) (destinationNext (x .destination))
 
-      by : (b : Bool) → Turn (inward x source token) (inward (cond b (acts q opened) (restsAt x) .side) source token) quiet
-      by true = opens-slot (inward x source token) shows stands _ (ap slotSeen e) refl refl (omega arith)
-      by false = nothing-in x
+      by : (b : Bool) → (leb 1 q && ltb (x .destination .0) lastClock) ≡ b
+          → Turn (inward x source token) (inward (cond b (acts q opened) (restsAt x) .side) source token) quiet
+      by true f =
+          let next = destination-next (x .destination) (both-hold (leb 1 q) (ltb (x .destination .0) lastClock) f .1) in
+          opens-slot (inward x source token) shows stands _ (ap slotSeen e) refl refl (omega arith)
+      by false f = nothing-in x
 
 -- at the giver's end: destination and slot are the receiver's
 module _ (destination : ℕ) (slot : Option (Held ℕ)) where
@@ -135,6 +139,8 @@ module _ (destination : ℕ) (slot : Option (Held ℕ)) where
       by : (b : Bool) → (eqb (l .source .0) (x .source .0) && ltb (x .source .0) lastClock) ≡ b → let r = cond b (acts q (give x l q)) (restsAt x) in
           Turn (outward x destination slot) (outward (r .side) destination slot) (departsBy (OneSlot l) (r .acted) (r .quantity))
       by true f =
-          let s = eqb-true _ _ (both-hold (eqb (l .source .0) (x .source .0)) (ltb (x .source .0) lastClock) f .0) in
+          let h = both-hold (eqb (l .source .0) (x .source .0)) (ltb (x .source .0) lastClock) f in
+          let s = eqb-true _ _ (h .0) in
+          let next = source-next (x .source) (h .1) in
           makes-token (outward x destination slot) shows stands _ _ refl s (omega arith) refl refl
       by false f = nothing-out x

@@ -7,12 +7,12 @@ use native.Mathlib.Omega.{arith}
 use lib.Dec.{ltb}
 use borrow.Author.Tests.{ltb-true, ltb-false, le-ltb, not-false}
 use Rattle.handshake.specs.History.{Entry}
-use Rattle.handshake.proofs.Sums.{sum-most, sum-term}
-use Rattle.rules.specs.Limits.{mostIntake, mostValue}
-use Rattle.rules.specs.Refusals.{answerOf}
+use Rattle.ground.proofs.Sums.{sum-most, sum-term}
+use Rattle.ground.specs.Limits.{mostIntake, mostValue}
+use Rattle.ground.specs.Refusals.{answerOf}
 use Rattle.rules.specs.Stock.{amountSound}
-use Rattle.rules.proofs.Refusing.{passed}
-use Rattle.rules.proofs.Stores.{stored}
+use Rattle.ground.proofs.Refusing.{passed}
+use Rattle.ground.proofs.Stores.{stored}
 use Rattle.station.specs.declared.station.Station.{Station}
 use Rattle.station.specs.Steps.{putStock}
 use Rattle.table.specs.Table.{stationAt, putStation}

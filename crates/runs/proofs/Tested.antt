@@ -1,8 +1,8 @@
 -- A run that passes the test of a clause keeps the clause; and the clauses are demand 3, all of it.
 -- Assumes nothing.
-use Prim.Native.Nat.{ℕ, zero, suc, _+_, _<_}
+use Prim.Native.Nat.{ℕ, zero, suc, _<_}
 use mathlib.Core.Path.{_≡_, refl, ap, sym, subst}
-use mathlib.Core.Bool.{Bool, true, false, _||_, and-false}
+use mathlib.Core.Bool.{Bool, true, false, and-false}
 use mathlib.Core.List.{List, [], _∷_, _++_}
 use mathlib.Core.Logic.{_≢_}
 use mathlib.Core.Option.{Option, none, some}
@@ -12,14 +12,16 @@ use lib.ListN.{length}
 use borrow.Author.Tests.{eqb-true, eq-eqb}
 use Rattle.handshake.specs.Channel.{Held}
 use Rattle.handshake.specs.History.{Transfer, Entry, transfer, departure, arrival, at, Belong}
-use Rattle.rules.specs.Below.{allBelow}
-use Rattle.rules.specs.Answers.{notSound, valueLimit}
+use Rattle.ground.specs.Below.{allBelow}
+use Rattle.ground.specs.Answers.{notSound, valueLimit}
 use Rattle.station.specs.Held.{slotFor, tokenFor}
 use Rattle.rules.specs.declared.held.HeldSlot.{HeldSlot}
 use Rattle.rules.specs.declared.held.HeldToken.{HeldToken}
 use Rattle.rules.specs.declared.held.HeldToken.the-variants.{OneToken}
 use Rattle.rules.specs.declared.held.Token.{Token}
-use Rattle.rules.proofs.Below.{needed, all-at}
+use Rattle.ground.proofs.Tests.{needed, equal, other-one}
+use Rattle.ground.proofs.Below.{all-at}
+use Rattle.handshake.proofs.Histories.{at-below}
 use Rattle.table.specs.Table.{stationAt}
 use Rattle.steps.specs.declared.asked.Step.{Step}
 use Rattle.table.specs.declared.table.Table.{Table}
@@ -52,22 +54,7 @@ each-clause build t d sound steps = d .accounted steps .sound
 each-clause build t d answers steps = d .accounted steps .answers
 each-clause build t d stale steps = λ before later e. d .stale before later
 
--- an element of a list stands below its length
-there : {A : Type 0} (xs : List A) (i : ℕ) (x : A) → at xs i ≡ some x → i < length xs
-unfolding at
-there [] i x e = let z : _≡_ {A = ℕ} 0 1 = cc in absurd (omega arith)
-there (y ∷ xs) zero x e = omega arith
-there (y ∷ xs) (suc i) x e = let h = there xs i x e in omega arith
-
--- a test that one of two holds, where the other does not
-pub other-one : (a b : Bool) → (a || b) ≡ true → (b ≡ true → false ≡ true) → a ≡ true
-other-one true b e f = refl
-other-one false b e f = f e
-
--- numbers that a test needs to be equal, or not to be
-equal : (a b : ℕ) → (eqb a b ≡ false → false ≡ true) → a ≡ b
-equal a b f = eqb-true a b (needed (eqb a b) f)
-
+-- numbers that a test needs not to be equal
 unequal : (a b : ℕ) → (eqb a b ≡ true → false ≡ true) → a ≢ b
 unequal a b f e = let z = f (eq-eqb a b e) in let o : _≡_ {A = ℕ} 0 1 = cc in omega arith
 
@@ -103,15 +90,15 @@ departure-same x (some (arrival y)) e = let z : _≡_ {A = ℕ} 0 1 = cc in absu
 
 departed-tested : (H : List (Entry ℕ)) → departedBeforeTest H ≡ true → DepartedBefore H
 departed-tested H e i x h =
-    let t = rw h at (all-at (λ i. departedBy H i (arrivalIn (at H i))) (length H) i e (there H i _ h)) in
+    let t = rw h at (all-at (λ i. departedBy H i (arrivalIn (at H i))) (length H) i e (at-below H i h)) in
     let w = any-at (λ k. sameIn x (departureIn (at H k))) i t in
     (w .0, w .1, departure-same x (at H (w .0)) (w .2))
 
 only-one-tested : (kind : Transfer ℕ → Entry ℕ) (kindIn : Option (Entry ℕ) → Option (Transfer ℕ)) → ((x : Transfer ℕ) → kindIn (some (kind x)) ≡ some x)
     → (H : List (Entry ℕ)) → onlyOneTest kindIn H ≡ true → OnlyOne kind H
 only-one-tested kind kindIn found H e i k x y h l b =
-    let row = all-at (λ i. allBelow (apart kindIn H i) (length H)) (length H) i e (there H i _ h) in
-    let t = rw (h, l, found x, found y, belong-test x y b) at (all-at (apart kindIn H i) (length H) k row (there H k _ l)) in
+    let row = all-at (λ i. allBelow (apart kindIn H i) (length H)) (length H) i e (at-below H i h) in
+    let t = rw (h, l, found x, found y, belong-test x y b) at (all-at (apart kindIn H i) (length H) k row (at-below H k l)) in
     eqb-true i k (other-one (eqb i k) false t (λ z. z))
 
 answered-tested : (log : List Line) → answeredTest log ≡ true → Answered log
@@ -131,7 +118,7 @@ stored-lands x k h l e w s d = rw (e, w, eq-eqb _ _ s, eq-eqb _ _ d)
 
 never-tested : (t : Table) (later : List (Entry ℕ)) → neverLandsTest t later ≡ true → NeverLands t later
 never-tested t later e i j k token waits n x h b =
-    let may = rw h at (all-at (λ n. landsBy t (arrivalIn (at later n))) (length later) n e (there later n _ h)) in
+    let may = rw h at (all-at (λ n. landsBy t (arrivalIn (at later n))) (length later) n e (at-below later n h)) in
     let m = b .maker in
     let r = b .receiver in
     let f : landsBy t (some x) ≡ false = rw (m, r) (stored-lands (x .token) k (tokenFor (stationAt t i) j) (slotFor (stationAt t j) i) token waits (b .source) (b .destination)) in

@@ -7,7 +7,7 @@ use native.Mathlib.Nat.{add-zero}
 use lib.Dec.{eqb, ltb}
 use Rattle.handshake.specs.History.{departed, arrived}
 use Rattle.handshake.proofs.Histories.{departed-both, arrived-both}
-use Rattle.rules.specs.Limits.{lastClock}
+use Rattle.ground.specs.Limits.{lastClock}
 use Rattle.rules.specs.Rules.{agree, fillBy, makeTokenBy, fill, dropSlot, openSlot, dropToken, makeToken}
 use Rattle.rules.specs.Taking.{takeOf}
 use Rattle.rules.specs.declared.held.HeldSlot.{HeldSlot}
@@ -17,7 +17,7 @@ use Rattle.rules.specs.declared.held.HeldToken.the-variants.{NoToken, OneToken}
 use Rattle.rules.specs.declared.message.Message.{Message}
 use Rattle.rules.specs.declared.rules.Ruled.{Ruled}
 use Rattle.rules.specs.declared.side.Side.{Side}
-use Rattle.rules.proofs.InOrder.{chosen}
+use Rattle.ground.proofs.Choices.{chosen}
 use Rattle.pool.specs.declared.places.Waiting.the-variants.{One}
 use Rattle.runs.specs.Demand3.{amount}
 use Rattle.runs.specs.Runs.{arrivalBy, departureBy, entriesBy}

@@ -8,10 +8,10 @@ use native.Mathlib.Omega.{arith}
 use lib.Dec.{ltb}
 use borrow.Author.Tests.{eqb-false, ltb-true, ltb-false, not-false}
 use Rattle.handshake.specs.History.{Entry}
-use Rattle.rules.specs.Answers.{done}
-use Rattle.rules.specs.Below.{allBelow}
+use Rattle.ground.specs.Answers.{done}
+use Rattle.ground.specs.Below.{allBelow}
 use Rattle.rules.specs.Stock.{amountSound}
-use Rattle.rules.proofs.Refusing.{passed}
+use Rattle.ground.proofs.Refusing.{passed}
 use Rattle.station.specs.Sound.{stationSound, messageSound}
 use Rattle.steps.specs.declared.asked.Step.{Step}
 use Rattle.steps.specs.declared.asked.Step.the-variants.{Add, Draw, Send, Deliver, Lose}

@@ -2,12 +2,12 @@
 -- document 01 prints, and its 5 passes depart once and arrive once. So demand 3's runs are not
 -- empty of meaning. Assumes nothing.
 use mathlib.Core.Path.{_≡_, refl}
-use Rattle.handshake.specs.Sums.{sumBelow}
-use Rattle.rules.specs.Below.{allBelow}
+use Rattle.ground.specs.Sums.{sumBelow}
+use Rattle.ground.specs.Below.{allBelow}
 use Rattle.station.specs.Sound.{stationSound, messageSound}
 use Rattle.rules.specs.Taking.{takeOf}
 use Rattle.station.specs.Steps.{addOf, drawOf, showOf, receiveOf}
-use Rattle.pool.specs.Pool.{firstFrom}
+use Rattle.ground.specs.First.{firstFrom}
 use Rattle.table.specs.Sound.{tableSound}
 use Rattle.table.specs.Fresh.{seatsTo, freshOf}
 use Rattle.steps.specs.Steps.{stepOf}

@@ -13,7 +13,7 @@ use Rattle.rules.specs.declared.held.HeldToken.{HeldToken}
 use Rattle.rules.specs.declared.held.HeldToken.the-variants.{NoToken, OneToken}
 use Rattle.rules.specs.declared.side.Side.{Side}
 use Rattle.rules.specs.declared.rules.Ruled.{Ruled}
-use Rattle.rules.specs.Limits.{lastClock}
+use Rattle.ground.specs.Limits.{lastClock}
 use Rattle.rules.specs.Report.{noReport}
 use Rattle.rules.specs.Side.{putValue, putSlot, putToken}
 use Rattle.rules.specs.Rules.{acts, rests, fill, dropSlot, openSlot, dropTokenBy, dropToken, give, makeToken}

@@ -8,8 +8,8 @@ use Rattle.rules.specs.declared.message.Message.{Message}
 use Rattle.rules.specs.declared.rules.Ruled.{Ruled}
 use Rattle.rules.specs.declared.side.Side.{Side}
 use Rattle.rules.specs.declared.taking.Taken.{Taken}
-use Rattle.rules.specs.Answers.{notSound, noSuchPlace, emptyPlace, tooFew}
-use Rattle.rules.specs.Refusals.{Refusal, when, answerOf}
+use Rattle.ground.specs.Answers.{notSound, noSuchPlace, emptyPlace, tooFew}
+use Rattle.ground.specs.Refusals.{Refusal, when, answerOf}
 use Rattle.rules.specs.Report.{noReport}
 use Rattle.rules.specs.Rules.{fill, dropSlot, openSlot, dropToken, makeToken}
 use Rattle.rules.specs.Taking.{reported}

@@ -7,7 +7,7 @@ use mathlib.Core.List.{List, _++_}
 use mathlib.Core.Logic.{_≢_}
 use mathlib.Core.Option.{some}
 use Rattle.handshake.specs.History.{Transfer, Entry, transfer, departure, arrival, at, Belong, departed, arrived}
-use Rattle.rules.specs.Answers.{notSound, valueLimit}
+use Rattle.ground.specs.Answers.{notSound, valueLimit}
 use Rattle.station.specs.Held.{slotFor, tokenFor}
 use Rattle.rules.specs.declared.held.HeldToken.the-variants.{OneToken}
 use Rattle.rules.specs.declared.held.Token.{Token}

@@ -7,7 +7,7 @@ use mathlib.Core.List.{List}
 use mathlib.Core.Logic.{_≢_}
 use mathlib.Core.Option.{some}
 use Rattle.handshake.specs.History.{Transfer, transfer, arrival, at, Belong, Pairing, departed, arrived}
-use Rattle.rules.specs.Answers.{notSound, valueLimit}
+use Rattle.ground.specs.Answers.{notSound, valueLimit}
 use Rattle.station.specs.Held.{slotFor, tokenFor}
 use Rattle.rules.specs.Rules.{agree}
 use Rattle.rules.specs.declared.held.HeldSlot.{HeldSlot}

@@ -6,7 +6,7 @@ use mathlib.Core.List.{List, [], _∷_, _++_}
 use lib.Dec.{eqb}
 use Rattle.handshake.specs.Channel.{Held}
 use Rattle.handshake.specs.History.{Entry, departure, arrival, transfer}
-use Rattle.rules.specs.Answers.{done}
+use Rattle.ground.specs.Answers.{done}
 use Rattle.rules.specs.declared.held.HeldSlot.{HeldSlot}
 use Rattle.rules.specs.declared.held.HeldSlot.the-variants.{NoSlot, OneSlot}
 use Rattle.rules.specs.declared.held.HeldToken.{HeldToken}

@@ -7,8 +7,8 @@ use lib.Dec.{eqb}
 use lib.ListN.{length, getD}
 use Rattle.handshake.specs.Channel.{Held}
 use Rattle.handshake.specs.History.{Transfer, Entry, departure, arrival, at, departed, arrived}
-use Rattle.rules.specs.Answers.{notSound, valueLimit}
-use Rattle.rules.specs.Below.{allBelow}
+use Rattle.ground.specs.Answers.{notSound, valueLimit}
+use Rattle.ground.specs.Below.{allBelow}
 use Rattle.station.specs.Held.{slotFor, tokenFor}
 use Rattle.rules.specs.declared.held.HeldSlot.{HeldSlot}
 use Rattle.rules.specs.declared.held.HeldToken.{HeldToken}

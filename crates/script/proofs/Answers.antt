@@ -5,8 +5,8 @@ use mathlib.Core.Bool.{Bool, true, false, cond, not}
 use mathlib.Core.List.{List, [], _∷_}
 use lib.Dec.{ltb}
 use lib.ListN.{length}
-use Rattle.rules.specs.Answers.{notSound, badLine, longScript, shortBuffer}
-use Rattle.rules.specs.Refusals.{when, answerOf}
+use Rattle.ground.specs.Answers.{notSound, badLine, longScript, shortBuffer}
+use Rattle.ground.specs.Refusals.{when, answerOf}
 use Rattle.station.specs.Sound.{countSound}
 use Rattle.table.specs.Fresh.{freshOf}
 use Rattle.script.specs.declared.starting.Run.{Run}

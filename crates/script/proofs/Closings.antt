@@ -8,14 +8,15 @@ use native.Mathlib.Numerals.{add-one}
 use native.Mathlib.Omega.{arith}
 use lib.ListN.{length, length-append}
 use lib.Seq.{sets}
-use Rattle.rules.specs.Limits.{mostStations, mostValue}
+use Rattle.ground.specs.Limits.{mostStations, mostValue}
 use Rattle.table.specs.declared.table.Table.{Table}
-use Rattle.table.specs.declared.way.Summed.{Summed}
+use Rattle.ground.specs.declared.told.Told.{Told}
 use Rattle.table.specs.Table.{stationAt}
 use Rattle.table.specs.Sound.{tableSound}
-use Rattle.handshake.specs.Sums.{sumBelow}
-use Rattle.rules.specs.Refusals.{answerOf}
-use Rattle.table.specs.Way.{sumRefusals, summed, atStations, between, onTheWay, wayFrom}
+use Rattle.ground.specs.Sums.{sumBelow}
+use Rattle.ground.specs.Refusals.{answerOf}
+use Rattle.ground.specs.Told.{toldWith}
+use Rattle.table.specs.Way.{sumRefusals, atStations, between, onTheWay, wayFrom}
 use Rattle.table.proofs.Tables.{table-parts}
 use Rattle.table.proofs.Sums.{between-small, station-sound}
 use Rattle.script.specs.Script.{stationLines}
@@ -68,5 +69,5 @@ module _ (t : Table) (e : tableSound t ≡ true) where
       omega (arith, sum-small (wayFrom t) (mostStations * mostValue) (t .count) way-from-small)
 
 -- a sum that was asked for is told where the table is sound
-pub sum-told : (t : Table) (sum : ℕ) {r : Summed} → r ≡ summed (answerOf (sumRefusals t)) sum → tableSound t ≡ true → r .result ≡ sum
-sum-told t sum e f = ap (λ (s : Summed). s .result) (rw f at e)
+pub sum-told : (t : Table) (sum : ℕ) {r : Told} → r ≡ toldWith (answerOf (sumRefusals t)) sum → tableSound t ≡ true → r .result ≡ sum
+sum-told t sum e f = ap (λ (s : Told). s .result) (rw f at e)

@@ -10,7 +10,7 @@ use lib.ListN.{length, set, length-append}
 use lib.Seq.{sets}
 use borrow.Author.Tests.{lt-ltb, le-ltb}
 use Rattle.script.specs.Decimal.{digitsBy, decimal}
-use Rattle.rules.proofs.Stores.{last-first}
+use Rattle.ground.proofs.Stores.{last-first}
 
 one : (more n : ℕ) → n ≤ 9 → digitsBy more n ≡ (48 + n) ∷ []
 unfolding digitsBy

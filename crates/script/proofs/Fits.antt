@@ -27,7 +27,8 @@ use Rattle.script.specs.Filling.{atOnce, Fills, runSound, turnOf}
 use Rattle.script.proofs.Lengths.{length-says, length-total, length-way}
 use Rattle.script.proofs.Puts.{put-first}
 use Rattle.script.proofs.Closings.{length-stations}
-use Rattle.script.proofs.Readings.{below-or-not, lines-few}
+use Rattle.ground.proofs.Tests.{below-or-not}
+use Rattle.script.proofs.Readings.{lines-few}
 use Rattle.script.proofs.Turns.{table-sound, turn-closes, turn-finished, turn-short, turn-steps, turn-unsound}
 
 said-fits : (n : ℕ) (t : Table) (xs : List Asked) → length (saidFor n t xs) ≤ 63 * length xs

@@ -5,14 +5,15 @@ use mathlib.Core.Path.{_≡_, refl, sym, ap, _∙_}
 use mathlib.Core.Bool.{true, false}
 use mathlib.Core.List.{List, _++_}
 use lib.ListN.{length, take}
+use Rattle.ground.proofs.Choices.{when-refused}
 use Rattle.script.specs.declared.filling.Filled.{Filled}
 use Rattle.script.specs.declared.starting.Put.{Put}
 use Rattle.script.specs.declared.starting.Run.{Run}
 use Rattle.script.specs.Script.{outputOf}
 use Rattle.script.specs.Closing.{closingRoom}
-use Rattle.script.specs.Starting.{answerLine, PutsAnswer, startedOf, stepRoom}
+use Rattle.script.specs.Starting.{PutsAnswer, startedOf, stepRoom}
 use Rattle.script.specs.Filling.{turnOf}
-use Rattle.script.specs.Printed.{ended, Loops, mostTurns, printedBy, putIn, runIn, turned, used-up}
+use Rattle.script.specs.Printed.{ended, Loops, mostTurns, putIn, runIn, turned, used-up}
 use Rattle.script.proofs.Fits.{answer-first, filled-first}
 use Rattle.script.proofs.Starts.{start-prints}
 use Rattle.script.proofs.Whole.{finishes, whole}
@@ -37,14 +38,10 @@ loops-put {script} {room} (suc turns) {run} (turned {out = out} e l f more) =
     let next = ap (λ (r : Filled). r .run) (f .filled) ∙ ap (λ (n : ℕ). turnOf script run n .run) l in
     (rw (first, rest .0, next) (sym (put-on turns room script run e)), rest .1 ∙ rw next (sym (run-on turns room script run e)))
 
-refusal-printed : (n : ℕ) (bytes : List ℕ) → (n ≡ 0 → ⊥) → printedBy n bytes ≡ answerLine n
-refusal-printed zero bytes f = absurd (f refl)
-refusal-printed (suc n) bytes f = refl
-
 module _ (script : List ℕ) where
   -- a script that is refused: the line of its answer
   pub refused-put : (out : List ℕ) {r : Put} {later : List ℕ} → (startedOf script .answer ≡ 0 → ⊥) → stepRoom ≤ length out → PutsAnswer (startedOf script .answer) out r later → take (r .result) later ≡ outputOf script
-  refused-put out f room p = answer-first (startedOf script .answer) out room p ∙ sym (start-prints script ∙ refusal-printed (startedOf script .answer) _ f)
+  refused-put out f room p = answer-first (startedOf script .answer) out room p ∙ sym (start-prints script ∙ sym (when-refused (startedOf script .answer) _ _ f))
 
   -- any other script: all its lines, and the loop ends because its run has finished
   pub started-put : (room : ℕ) {last : Run} {bytes : List ℕ} → startedOf script .answer ≡ 0 → closingRoom ≤ room → Loops script room mostTurns (startedOf script .run) bytes last → (bytes ≡ outputOf script) × (last .finished ≡ true)

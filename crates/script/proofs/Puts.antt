@@ -7,7 +7,7 @@ use native.Mathlib.Numerals.{add-one}
 use native.Mathlib.Omega.{arith}
 use lib.ListN.{length, getD, take, drop, set, length-append, drop-of-length-le}
 use lib.Seq.{sets, drop-cons, take-at}
-use Rattle.rules.proofs.Stores.{in-front, then}
+use Rattle.ground.proofs.Stores.{in-front, then}
 
 module _ (b : List ℕ) (at : ℕ) (text : List ℕ) where
   pub text-turn : (k : ℕ) → k < length text → sets (set b (at + k) (getD text k 0)) (at + (k + 1)) (drop (k + 1) text) ≡ sets b (at + k) (drop k text)

@@ -2,7 +2,7 @@
 -- they are read into. Assumes nothing.
 use Prim.Native.Nat.{ℕ, zero, suc, _+_, _-_, _*_, _≤_, _<_}
 use mathlib.Core.Path.{_≡_, refl, sym, ap, _∙_}
-use mathlib.Core.Bool.{Bool, true, false, cond, _&&_, and-eq-true-iff}
+use mathlib.Core.Bool.{Bool, true, false, cond, _&&_}
 use mathlib.Core.List.{List, [], _∷_}
 use mathlib.Core.Logic.{_⊎_, inl, inr, ⊎-elim}
 use native.Mathlib.Omega.{arith}
@@ -10,7 +10,8 @@ use borrow.Author.Tests.{lt-ltb, le-ltb, ltb-true, ltb-false}
 use lib.Dec.{ltb}
 use lib.ListN.{length, getD, drop, set, length-append, length-drop}
 use lib.Seq.{sets, length-sets}
-use Rattle.rules.proofs.Stores.{then}
+use Rattle.ground.proofs.Stores.{then}
+use Rattle.ground.proofs.Tests.{below-or-not}
 use Rattle.steps.specs.declared.asked.Asked.{Asked}
 use Rattle.steps.specs.declared.asked.Asked.the-variants.{NoStep, OneStep}
 use Rattle.steps.specs.declared.asked.Step.the-variants.{Add, Draw, Send, Deliver, Lose}
@@ -18,18 +19,6 @@ use Rattle.steps.specs.Running.{askedIn, numbersFor}
 use Rattle.script.specs.Words.{indexOf}
 use Rattle.script.specs.Lines.{lineOf}
 use Rattle.script.specs.Reading.{lineAt, linesFrom, numbersOf, pastLine, pastLines, readOf}
-
-pub below-or-not : (k n : ℕ) → (k < n) ⊎ (n ≤ k)
-below-or-not k n = by (ltb k n) refl
-  where
-    by : (b : Bool) → ltb k n ≡ b → (k < n) ⊎ (n ≤ k)
-    by true e = inl (ltb-true k n e)
-    by false e = inr (ltb-false k n e)
-
-pub both-below : (k n i m : ℕ) → (ltb k n && ltb i m) ≡ true → (k < n) × (i < m)
-both-below k n i m e =
-    let both = and-eq-true-iff (ltb k n) (ltb i m) .0 e in
-    (ltb-true k n (both .0), ltb-true i m (both .1))
 
 -- a position within the script moves on, and not past the end
 onward-by : (at i n : ℕ) (inside : Bool) → at < n → at < cond inside (at + i + 1) n

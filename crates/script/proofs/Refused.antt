@@ -13,7 +13,7 @@ use Rattle.script.specs.declared.starting.Started.{Started}
 use Rattle.script.specs.Closing.{closingRoom}
 use Rattle.script.specs.Starting.{notStarted, PutsAnswer, startedOf, stepRoom}
 use Rattle.script.specs.Filling.{Fills, runSound, Turn, turnOf}
-use Rattle.script.proofs.Readings.{below-or-not}
+use Rattle.ground.proofs.Tests.{below-or-not}
 use Rattle.script.proofs.Starts.{begun, Begun, going, refused}
 use Rattle.script.proofs.Turns.{turn-closes, turn-finished, turn-short, turn-steps, turn-unsound}
 

@@ -18,7 +18,8 @@ use Rattle.script.specs.Decimal.{says}
 use Rattle.script.specs.Script.{closing, runFrom}
 use Rattle.script.specs.Reading.{lineAt, linesFrom, pastLine, pastLines}
 use Rattle.script.specs.Telling.{saidFor}
-use Rattle.script.proofs.Readings.{below-or-not, lines-more, lines-none, lines-zero, past-more, past-none, past-zero}
+use Rattle.ground.proofs.Tests.{below-or-not}
+use Rattle.script.proofs.Readings.{lines-more, lines-none, lines-zero, past-more, past-none, past-zero}
 
 -- the position past a line leaves what stands past the line
 past-by : (script : List ℕ) (at i : ℕ) (inside : Bool) → ltb i (length (drop at script)) ≡ inside → drop (cond inside (at + i + 1) (length script)) script ≡ drop (i + 1) (drop at script)

@@ -1,13 +1,14 @@
 -- Two lists compared byte by byte. Assumes nothing.
 use Prim.Native.Nat.{ℕ, _+_, _≤_, _<_}
 use mathlib.Core.Path.{_≡_, refl, ap}
-use mathlib.Core.Bool.{Bool, true, false, _&&_, and-eq-true-iff}
+use mathlib.Core.Bool.{true, false, _&&_, and-eq-true-iff}
 use mathlib.Core.List.{List, [], _∷_}
 use native.Mathlib.Numerals.{add-one}
 use borrow.Author.Tests.{eq-eqb, ne-eqb, eqb-true}
 use lib.Dec.{eqb}
 use lib.ListN.{length, getD, drop, drop-of-length-le}
 use lib.Seq.{drop-cons}
+use Rattle.ground.proofs.Tests.{refuted}
 use Rattle.script.specs.Words.{sameBytes}
 
 -- the bytes from a place on, by the first of them
@@ -30,10 +31,6 @@ same-true (x ∷ xs) [] e = cc
 same-true (x ∷ xs) (y ∷ ys) e =
     let both = and-eq-true-iff (eqb x y) (sameBytes xs ys) .0 e in
     cc (eqb-true x y (both .0), same-true xs ys (both .1))
-
-refuted : (t : Bool) → (t ≡ true → ⊥) → t ≡ false
-refuted true f = absurd (f refl)
-refuted false f = refl
 
 pub same-lengths : (a b : List ℕ) → (length a ≡ length b → ⊥) → sameBytes a b ≡ false
 same-lengths a b f = refuted (sameBytes a b) (λ e. f (ap length (same-true a b e)))

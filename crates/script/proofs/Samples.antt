@@ -1,12 +1,12 @@
 -- What some numbers and lines print as, digit by digit. Assumes nothing.
 use mathlib.Core.Path.{_≡_, refl}
 use mathlib.Core.List.{[], _∷_}
-use Rattle.rules.specs.Below.{allBelow}
+use Rattle.ground.specs.Below.{allBelow}
 use Rattle.station.specs.Sound.{stationSound}
 use Rattle.table.specs.Sound.{tableSound}
 use Rattle.table.specs.Fresh.{freshOf, seatsTo}
 use Rattle.steps.specs.Steps.{stepOf}
-use Rattle.handshake.specs.Sums.{sumBelow}
+use Rattle.ground.specs.Sums.{sumBelow}
 use Rattle.script.specs.Decimal.{digitsBy, decimal, says}
 use Rattle.script.specs.Words.{numeralOf}
 use Rattle.script.specs.Lines.{lineOf, stationsOf}

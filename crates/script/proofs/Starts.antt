@@ -8,6 +8,7 @@ use native.Mathlib.Omega.{arith}
 use borrow.Author.Tests.{ltb-false}
 use lib.Dec.{ltb}
 use lib.ListN.{length}
+use Rattle.ground.specs.Choice.{ifDone}
 use Rattle.station.specs.Sound.{countSound}
 use Rattle.table.specs.declared.stepped.Stepped.{Stepped}
 use Rattle.table.specs.declared.table.Table.{Table}
@@ -22,8 +23,7 @@ use Rattle.script.specs.Lines.{stationsOf}
 use Rattle.script.specs.Decimal.{says}
 use Rattle.script.specs.Script.{mostBytes, openedBy, outputOf, started}
 use Rattle.script.specs.Reading.{lineAt, pastLine}
-use Rattle.script.specs.Starting.{notStarted, startedOf, startFor, startWith}
-use Rattle.script.specs.Printed.{printedBy}
+use Rattle.script.specs.Starting.{notStarted, startedOf, startFor, startWith, answerLine}
 use Rattle.script.proofs.Readings.{past-onward, past-within}
 use Rattle.script.proofs.Runs.{owedFrom, past-left}
 
@@ -66,19 +66,22 @@ begun [] = refused 11 refl
 begun (b ∷ bs) = let script = b ∷ bs in size-begun script (omega arith) (ltb mostBytes (length script)) refl (stationsOf (lineAt script 0))
 
 -- a script prints what its start says
-made-prints : (script : List ℕ) (made : Stepped) (answer : ℕ) → made .answer ≡ answer → let s = startWith made (pastLine script 0) in started made (past 10 script) ≡ printedBy (s .answer) (owedFrom script (s .run .table) (s .run .number) (s .run .at))
+abbrev pub printed : List ℕ → Started → List ℕ
+printed script s = ifDone (s .answer) (owedFrom script (s .run .table) (s .run .number) (s .run .at)) (answerLine (s .answer))
+
+made-prints : (script : List ℕ) (made : Stepped) (answer : ℕ) → made .answer ≡ answer → let s = startWith made (pastLine script 0) in started made (past 10 script) ≡ printed script s
 unfolding owedFrom
 made-prints script made zero e = rw (e, past-left script 0)
 made-prints script made (suc n) e = rw e
 
-first-prints : (script : List ℕ) (first : Numeral) → let s = startFor first (pastLine script 0) in openedBy first (past 10 script) ≡ printedBy (s .answer) (owedFrom script (s .run .table) (s .run .number) (s .run .at))
+first-prints : (script : List ℕ) (first : Numeral) → let s = startFor first (pastLine script 0) in openedBy first (past 10 script) ≡ printed script s
 first-prints script Unreadable = refl
 first-prints script (Reads count) = made-prints script (freshOf count) (freshOf count .answer) refl
 
-size-prints : (long : Bool) (script : List ℕ) (first : Numeral) → let s = cond long (notStarted 13) (startFor first (pastLine script 0)) in cond long (says 0 13 0) (openedBy first (past 10 script)) ≡ printedBy (s .answer) (owedFrom script (s .run .table) (s .run .number) (s .run .at))
+size-prints : (long : Bool) (script : List ℕ) (first : Numeral) → let s = cond long (notStarted 13) (startFor first (pastLine script 0)) in cond long (says 0 13 0) (openedBy first (past 10 script)) ≡ printed script s
 size-prints true script first = refl
 size-prints false script first = first-prints script first
 
-pub start-prints : (script : List ℕ) → let s = startedOf script in outputOf script ≡ printedBy (s .answer) (owedFrom script (s .run .table) (s .run .number) (s .run .at))
+pub start-prints : (script : List ℕ) → let s = startedOf script in outputOf script ≡ printed script s
 unfolding outputOf startedOf
 start-prints script = size-prints (ltb mostBytes (length script)) script (stationsOf (upTo 10 script))

@@ -9,7 +9,7 @@ use borrow.Author.Tests.{leb-true, le-ltb, lt-ltb}
 use lib.Dec.{leb}
 use lib.ListN.{length, take, drop}
 use lib.Seq.{sets, length-sets}
-use Rattle.rules.proofs.Stores.{in-front}
+use Rattle.ground.proofs.Stores.{in-front}
 use Rattle.steps.specs.declared.running.Ran.{Ran}
 use Rattle.steps.specs.declared.asked.Asked.{Asked}
 use Rattle.table.specs.declared.table.Table.{Table}

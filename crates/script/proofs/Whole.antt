@@ -19,13 +19,15 @@ use Rattle.script.specs.declared.starting.Started.{Started}
 use Rattle.script.specs.Script.{mostBytes, outputOf}
 use Rattle.script.specs.Closing.{closingRoom}
 use Rattle.script.specs.Reading.{linesFrom, pastLines}
-use Rattle.script.specs.Starting.{notStarted, startedOf}
+use Rattle.script.specs.Starting.{notStarted, startedOf, answerLine}
 use Rattle.script.specs.Filling.{atOnce, closed, runSound, stepped}
-use Rattle.script.specs.Printed.{mostTurns, printedBy, printedIn, putIn, runIn}
-use Rattle.script.proofs.Readings.{below-or-not, lines-onward, lines-some, lines-within}
+use Rattle.script.specs.Printed.{mostTurns, printedIn, putIn, runIn}
+use Rattle.ground.proofs.Tests.{below-or-not}
+use Rattle.ground.specs.Choice.{ifDone}
+use Rattle.script.proofs.Readings.{lines-onward, lines-some, lines-within}
 use Rattle.script.proofs.Turns.{turn-closes, turn-steps}
 use Rattle.script.proofs.Runs.{owed-ended, owed-lines, owedFrom}
-use Rattle.script.proofs.Starts.{begun, Begun, going, refused, start-prints}
+use Rattle.script.proofs.Starts.{begun, Begun, going, refused, start-prints, printed}
 
 -- steps keep a table sound
 asked-keeps : (t : Table) (x : Asked) → tableSound t ≡ true → tableSound (askedStep t x .table) ≡ true
@@ -94,7 +96,7 @@ module _ (script : List ℕ) (room : ℕ) (short : length script ≤ mostBytes) 
 -- what is put is what the start says is printed
 module _ (script : List ℕ) (room : ℕ) (wide : closingRoom ≤ room) where
   whole-by : (s : Started) → Begun script s
-      → (printedBy (s .answer) (putIn mostTurns room script (s .run)) ≡ printedBy (s .answer) (owedFrom script (s .run .table) (s .run .number) (s .run .at))) × (runIn mostTurns room script (s .run) .finished ≡ true)
+      → (ifDone (s .answer) (putIn mostTurns room script (s .run)) (answerLine (s .answer)) ≡ printed script s) × (runIn mostTurns room script (s .run) .finished ≡ true)
   whole-by s (refused n e) = rw e (refl, finished-stays mostTurns room script (notStarted (suc n) .run) refl)
   whole-by s (going t at e sound first within short) =
       let run : Run = record { table = t; at = at; number = 1; finished = false } in

@@ -6,8 +6,8 @@ use mathlib.Core.List.{List, [], _∷_}
 use lib.Dec.{leb, ltb}
 use lib.ListN.{length}
 use lib.Seq.{sets}
-use Rattle.rules.specs.Answers.{done, notSound, shortBuffer}
-use Rattle.rules.specs.Refusals.{Refusal, when}
+use Rattle.ground.specs.Answers.{done, notSound, shortBuffer}
+use Rattle.ground.specs.Refusals.{Refusal, when}
 use Rattle.table.specs.Sound.{tableSound}
 use Rattle.steps.specs.Running.{leftBy}
 use Rattle.script.specs.declared.starting.Run.{Run}

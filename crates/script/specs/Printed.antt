@@ -5,6 +5,7 @@ use mathlib.Core.Path.{_≡_}
 use mathlib.Core.Bool.{true, false, cond}
 use mathlib.Core.List.{List, [], _++_}
 use lib.ListN.{length, take}
+use Rattle.ground.specs.Choice.{ifDone}
 use Rattle.script.specs.declared.filling.Filled.{Filled}
 use Rattle.script.specs.declared.starting.Run.{Run}
 use Rattle.script.specs.Starting.{answerLine, startedOf}
@@ -22,12 +23,9 @@ runIn zero room script run = run
 runIn (suc turns) room script run = cond (run .finished) run (runIn turns room script (turnOf script run room .run))
 
 -- a refused script puts the line of its answer, and any other its turns
-abbrev pub printedBy : ℕ → List ℕ → List ℕ
-printedBy zero bytes = bytes
-printedBy (suc n) bytes = answerLine (suc n)
-
 abbrev pub printedIn : ℕ → ℕ → List ℕ → List ℕ
-printedIn turns room script = let started = startedOf script in printedBy (started .answer) (putIn turns room script (started .run))
+printedIn turns room script =
+    let started = startedOf script in ifDone (started .answer) (putIn turns room script (started .run)) (answerLine (started .answer))
 
 -- the turns that the program has: one more than the longest script has bytes
 abbrev pub mostTurns : ℕ

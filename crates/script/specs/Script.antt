@@ -4,7 +4,8 @@ use mathlib.Core.Bool.{cond}
 use mathlib.Core.List.{List, [], _∷_, _++_}
 use lib.Dec.{ltb}
 use lib.ListN.{length}
-use Rattle.rules.specs.Answers.{badLine, longScript}
+use Rattle.ground.specs.Answers.{badLine, longScript}
+use Rattle.ground.specs.Choice.{ifDone}
 use Rattle.table.specs.declared.table.Table.{Table}
 use Rattle.table.specs.declared.stepped.Stepped.{Stepped}
 use Rattle.table.specs.Table.{stationAt}
@@ -42,11 +43,7 @@ runFrom (suc lines) t n (b ∷ bs) =
 
 -- a script that does not start prints one line
 abbrev pub started : Stepped → List ℕ → List ℕ
-started made rest = startedBy (made .answer)
-  where
-    startedBy : ℕ → List ℕ
-    startedBy zero = runFrom (length rest) (made .table) 1 rest
-    startedBy (suc n) = says 0 (suc n) 0
+started made rest = ifDone (made .answer) (runFrom (length rest) (made .table) 1 rest) (says 0 (made .answer) 0)
 
 abbrev pub openedBy : Numeral → List ℕ → List ℕ
 openedBy Unreadable rest = says 0 badLine 0

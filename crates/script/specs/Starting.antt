@@ -1,13 +1,14 @@
 -- What starting a script does, and the line of a script that is refused.
-use Prim.Native.Nat.{ℕ, zero, suc}
+use Prim.Native.Nat.{ℕ}
 use mathlib.Core.Path.{_≡_}
 use mathlib.Core.Bool.{Bool, true, false, cond, not}
 use mathlib.Core.List.{List, [], _∷_}
 use lib.Dec.{ltb}
 use lib.ListN.{length}
 use lib.Seq.{sets}
-use Rattle.rules.specs.Answers.{done, notSound, badLine, longScript, shortBuffer}
-use Rattle.rules.specs.Refusals.{Refusal, when, answerOf}
+use Rattle.ground.specs.Answers.{done, notSound, badLine, longScript, shortBuffer}
+use Rattle.ground.specs.Refusals.{Refusal, when, answerOf}
+use Rattle.ground.specs.Choice.{ifDone}
 use Rattle.station.specs.Sound.{countSound}
 use Rattle.table.specs.declared.stepped.Stepped.{Stepped}
 use Rattle.table.specs.Fresh.{blankTable, freshOf}
@@ -26,11 +27,10 @@ notStarted answer = record { answer = answer; result = 0; run = record { table =
 
 -- steps are numbered from 1, and their lines start at a position
 abbrev pub startWith : Stepped → ℕ → Started
-startWith made at = startBy (made .answer)
-  where
-    startBy : ℕ → Started
-    startBy zero = record { answer = done; result = 0; run = record { table = made .table; at = at; number = 1; finished = false } }
-    startBy (suc n) = notStarted (suc n)
+startWith made at =
+    ifDone (made .answer)
+    (record { answer = done; result = 0; run = record { table = made .table; at = at; number = 1; finished = false } })
+    (notStarted (made .answer))
 
 abbrev pub startFor : Numeral → ℕ → Started
 startFor Unreadable at = notStarted badLine

@@ -4,7 +4,7 @@ ghost use mathlib.Core.Bool.{true};
 ghost use Prim.Native.Nat.{_+_, _≤_};
 ghost use lib.ListN.{length};
 ghost use lib.Seq.{sets};
-ghost use Rattle.rules.specs.Limits.{mostStations};
+ghost use Rattle.ground.specs.Limits.{mostStations};
 ghost use Rattle.table.specs.Sound.{tableSound};
 ghost use Rattle.script.specs.Script.{closing, stationLines};
 ghost use Rattle.script.specs.Closing.{closingRoom, seatLine};

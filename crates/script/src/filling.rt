@@ -15,7 +15,7 @@ use crate::limits::STEP_ROOM;
 use crate::reading::read_lines;
 use crate::starting::Run;
 use crate::telling::put_told;
-use rules::answers;
+use ground::answers;
 use table::sound::table_is_sound;
 
 // The numbered answer, how many bytes were put, and the run past what was put.

@@ -8,7 +8,7 @@ use crate::printing::put_says;
 use crate::reading::line_at;
 use crate::reading::past_line;
 use crate::words::Numeral;
-use rules::answers;
+use ground::answers;
 use table::fresh::fresh_table;
 use table::table::Table;
 

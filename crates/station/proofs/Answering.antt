@@ -1,39 +1,24 @@
 -- Answers looked for in order, and what follows where the answer is 0. Assumes nothing.
-use Prim.Native.Nat.{ℕ, zero, suc, _+_, _-_, _<_, _≤_}
+use Prim.Native.Nat.{ℕ, _+_, _-_, _<_, _≤_}
 use mathlib.Core.Path.{_≡_, refl}
 use mathlib.Core.Bool.{true, not}
 use lib.Dec.{ltb, eqb}
 use borrow.Author.Tests.{ltb-true, ltb-false, not-false, eqb-true, eqb-false}
 use Rattle.rules.specs.declared.message.Message.{Message}
-use Rattle.rules.specs.Limits.{mostIntake, mostValue}
-use Rattle.rules.specs.Message.{noMessage}
+use Rattle.ground.specs.Limits.{mostIntake, mostValue}
 use Rattle.rules.specs.Report.{noReport}
-use Rattle.rules.specs.Refusals.{answerOf}
+use Rattle.ground.specs.Refusals.{answerOf}
 use Rattle.rules.specs.Stock.{amountSound}
 use Rattle.rules.specs.Rules.{fill}
 use Rattle.rules.specs.Taking.{takeOf}
-use Rattle.rules.proofs.Below.{both-hold}
-use Rattle.rules.proofs.Refusing.{passed}
+use Rattle.ground.proofs.Tests.{both-hold}
+use Rattle.ground.proofs.Refusing.{passed}
+use Rattle.ground.proofs.Choices.{answer-told}
 use Rattle.station.specs.declared.station.Station.{Station}
 use Rattle.station.specs.declared.outcome.Outcome.{Outcome}
 use Rattle.station.specs.Side.{sideFor}
 use Rattle.station.specs.Sound.{stationSound, messageSound}
-use Rattle.station.specs.Outcome.{refused, answered}
-use Rattle.station.specs.Steps.{told, blank, putStock, messageFor, showing, endsBelow, received as take-in, freshRefusals, addRefusals, drawRefusals, showRefusals, receiveRefusals, freshAnswer, addAnswer, drawAnswer, showAnswer, meetAnswer, receiveAnswer, freshOf, addOf, drawOf, showOf, receiveOf}
-
-pub when-done : {n : ℕ} (s : Station) (d : Outcome) → n ≡ 0 → d ≡ answered n s d
-when-done s d e = rw e
-
-pub when-refused : (n : ℕ) (s : Station) (d : Outcome) → (n ≡ 0 → ⊥) → refused n s ≡ answered n s d
-when-refused zero s d f = absurd (f refl)
-when-refused (suc n) s d f = refl
-
-pub shown-done : {n : ℕ} (m : Message) → n ≡ 0 → record { answer = 0; message = m } ≡ showing n m
-shown-done m e = rw e
-
-pub shown-refused : (n : ℕ) (m : Message) → (n ≡ 0 → ⊥) → record { answer = n; message = noMessage } ≡ showing n m
-shown-refused zero m f = absurd (f refl)
-shown-refused (suc n) m f = refl
+use Rattle.station.specs.Steps.{told, blank, putStock, endsBelow, received as take-in, freshRefusals, addRefusals, drawRefusals, showRefusals, receiveRefusals, freshAnswer, addAnswer, drawAnswer, showAnswer, meetAnswer, receiveAnswer, freshOf, addOf, drawOf, showOf, receiveOf}
 
 -- what an add that is done has room for
 pub record Added (s : Station) (amount : ℕ) : Type 0 where
@@ -106,30 +91,22 @@ received s m e =
     }
 
 -- an entry point tells the answer that was found
-pub answer-told : (n : ℕ) (s : Station) (d : Outcome) → d .answer ≡ 0 → answered n s d .answer ≡ n
-answer-told zero s d e = e
-answer-told (suc n) s d e = refl
-
 pub fresh-tells : (number count : ℕ) → freshOf number count .answer ≡ answerOf (freshRefusals number count)
 unfolding freshOf
-fresh-tells number count = answer-told (freshAnswer number count) (blank 0 0) (told 0 noReport (blank number count)) refl
+fresh-tells number count = answer-told (λ (o : Outcome). o .answer) (freshAnswer number count) (told 0 noReport (blank number count)) _ refl refl
 
 pub add-tells : (s : Station) (amount : ℕ) → addOf s amount .answer ≡ answerOf (addRefusals s amount)
 unfolding addOf
-add-tells s amount = answer-told (addAnswer s amount) s (told (s .value + amount) noReport (putStock s (s .value + amount) (s .intake + amount))) refl
+add-tells s amount = answer-told (λ (o : Outcome). o .answer) (addAnswer s amount) (told (s .value + amount) noReport (putStock s (s .value + amount) (s .intake + amount))) _ refl refl
 
 pub draw-tells : (s : Station) (amount : ℕ) → drawOf s amount .answer ≡ answerOf (drawRefusals s amount)
 unfolding drawOf
-draw-tells s amount = answer-told (drawAnswer s amount) s (told amount noReport (putStock s (s .value - amount) (s .intake))) refl
+draw-tells s amount = answer-told (λ (o : Outcome). o .answer) (drawAnswer s amount) (told amount noReport (putStock s (s .value - amount) (s .intake))) _ refl refl
 
 pub receive-tells : (s : Station) (m : Message) → receiveOf s m .answer ≡ answerOf (receiveRefusals s m)
 unfolding receiveOf
-receive-tells s m = answer-told (receiveAnswer s m) s (take-in s m (takeOf (sideFor s (m .from)) m)) refl
-
-shown-answer : (n : ℕ) (m : Message) → showing n m .answer ≡ n
-shown-answer zero m = refl
-shown-answer (suc n) m = refl
+receive-tells s m = answer-told (λ (o : Outcome). o .answer) (receiveAnswer s m) (take-in s m (takeOf (sideFor s (m .from)) m)) _ refl refl
 
 pub show-tells : (s : Station) (to : ℕ) → showOf s to .answer ≡ answerOf (showRefusals s to)
 unfolding showOf
-show-tells s to = shown-answer (showAnswer s to) (messageFor s to)
+show-tells s to = refl

@@ -8,14 +8,16 @@ use Rattle.rules.specs.declared.stock.Stock.{Stock}
 use Rattle.rules.specs.declared.taking.Taken.{Taken}
 use Rattle.rules.specs.Taking.{takeOf, takeAnswer, takenOf}
 use Rattle.rules.specs.Stock.{stocked, addToAnswer, addDone, addedTo, drawFromAnswer, drawDone, drawnFrom}
-use Rattle.rules.proofs.Refusing.{answer-before, take-tells, take-done}
+use Rattle.ground.proofs.Refusing.{answer-before}
+use Rattle.ground.proofs.Choices.{when-done, when-refused}
+use Rattle.rules.proofs.Refusing.{take-tells, take-done}
 use Rattle.station.specs.declared.station.Station.{Station}
 use Rattle.station.specs.Side.{sideFor}
 use Rattle.station.specs.Sound.{stationSound}
 use Rattle.station.specs.Outcome.{refused, answered}
 use Rattle.station.specs.Steps.{stockOutcome, addAnswer, addOf, drawAnswer, drawOf, meetRefusals, meetAnswer, fillRefusals, receiveAnswer, received, receiveOf}
 use Rattle.station.proofs.Parts.{station-parts, message-parts, token-small}
-use Rattle.station.proofs.Answering.{when-done, when-refused, met}
+use Rattle.station.proofs.Answering.{met}
 
 -- a stock that is refused leaves the station as it was
 stock-tells : (n : ℕ) (s : Station) (k : Stock) → stockOutcome s (stocked n (s .value) (s .intake) k) ≡ answered n s (stockOutcome s k)
@@ -52,7 +54,7 @@ module _ (s : Station) (m : Message) where
   unfolding receiveOf
   receive-unmet f =
       let d = received s m (takeOf (sideFor s (m .from)) m) in
-      when-refused (meetAnswer s m) s d f ∙ ap (λ (n : ℕ). answered n s d) (sym (answer-before (meetRefusals s m) (fillRefusals s m) f))
+      when-refused (meetAnswer s m) d (refused (meetAnswer s m) s) f ∙ ap (λ (n : ℕ). answered n s d) (sym (answer-before (meetRefusals s m) (fillRefusals s m) f))
 
   module _ (e : meetAnswer s m ≡ 0) where
     same-answer : takeAnswer (sideFor s (m .from)) m ≡ receiveAnswer s m
@@ -76,10 +78,10 @@ module _ (s : Station) (m : Message) where
     pub receive-refused : (takenOf (sideFor s (m .from)) m .answer ≡ 0 → ⊥) → refused (takenOf (sideFor s (m .from)) m .answer) s ≡ receiveOf s m
     unfolding receiveOf
     receive-refused f =
-        rw told-answer (when-refused (receiveAnswer s m) s (received s m (takeOf (sideFor s (m .from)) m)) (λ z. f (told-answer ∙ z)))
+        rw told-answer (when-refused (receiveAnswer s m) (received s m (takeOf (sideFor s (m .from)) m)) (refused (receiveAnswer s m) s) (λ z. f (told-answer ∙ z)))
 
     pub receive-done : takenOf (sideFor s (m .from)) m .answer ≡ 0 → received s m (takenOf (sideFor s (m .from)) m) ≡ receiveOf s m
     unfolding receiveOf
     receive-done z =
         let x = sideFor s (m .from) in
-        ap (λ (t : Taken). received s m t) (take-done x m (sym (take-tells x m) ∙ z)) ∙ when-done s (received s m (takeOf x m)) (sym told-answer ∙ z)
+        ap (λ (t : Taken). received s m t) (take-done x m (sym (take-tells x m) ∙ z)) ∙ when-done (received s m (takeOf x m)) _ (sym told-answer ∙ z)

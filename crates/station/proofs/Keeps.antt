@@ -1,6 +1,6 @@
 -- Every step of a sound station leaves a sound station that is still the same one of its table, and
 -- the message that a sound station has for another is sound. Assumes nothing.
-use Prim.Native.Nat.{ℕ, zero, suc, _+_, _-_, _<_, _≤_}
+use Prim.Native.Nat.{ℕ, _+_, _-_, _<_, _≤_}
 use mathlib.Core.Path.{_≡_, refl, sym, _∙_}
 use mathlib.Core.Bool.{true, false, not, or-true}
 use native.Mathlib.Omega.{arith}
@@ -10,23 +10,23 @@ use borrow.Author.Tests.{lt-ltb, le-leb, ne-eqb, not-false}
 use Rattle.station.specs.declared.station.Station.{Station}
 use Rattle.rules.specs.declared.message.Message.{Message}
 use Rattle.station.specs.declared.outcome.Outcome.{Outcome}
-use Rattle.rules.specs.Limits.{mostStations, mostIntake, mostValue}
+use Rattle.ground.specs.Limits.{mostStations, mostIntake, mostValue}
 use Rattle.station.specs.Held.{noSlot, noToken}
 use Rattle.station.specs.Sound.{isPeer, cellsSound, countSound, stationSound, messageSound}
-use Rattle.station.specs.Outcome.{answered}
+use Rattle.station.specs.Outcome.{refused, answered}
 use Rattle.rules.specs.Message.{noMessage}
 use Rattle.station.specs.Steps.{blank, putStock, messageFor, freshAnswer, addAnswer, drawAnswer, showAnswer, receiveAnswer, freshOf, addOf, drawOf, receiveOf}
-use Rattle.rules.proofs.Below.{all-from}
+use Rattle.ground.proofs.Below.{all-from}
 use Rattle.station.proofs.Parts.{station-parts, station-whole, message-parts}
-use Rattle.rules.proofs.Refusing.{passed}
+use Rattle.ground.proofs.Refusing.{passed}
+use Rattle.ground.proofs.Choices.{either-way}
 use Rattle.station.proofs.Answering.{added, shown, received}
 use Rattle.station.proofs.KeepsSide.{take-keeps}
 use Rattle.station.proofs.KeepsCells.{side-sound, put-sound}
 
 -- what holds of the station lent, and of the one that a step done leaves, holds after the step
 after : (P : Station → Type 0) (n : ℕ) (s : Station) (d : Outcome) → P s → (n ≡ 0 → P (d .station)) → P (answered n s d .station)
-after P zero s d p f = f refl
-after P (suc n) s d p f = p
+after P n s d p f = either-way (λ (o : Outcome). P (o .station)) n d (refused n s) f p
 
 -- another value and intake in range leave the rest as it was
 pub stock-sound : (s : Station) (value intake : ℕ) → stationSound s ≡ true → value ≤ mostValue → intake ≤ mostIntake → stationSound (putStock s value intake) ≡ true

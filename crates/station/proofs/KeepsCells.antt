@@ -6,8 +6,8 @@ use mathlib.Core.Bool.{true, _||_, and-false}
 use native.Mathlib.Omega.{arith}
 use lib.Dec.{ltb}
 use borrow.Author.Tests.{ltb-true, lt-ltb}
-use Rattle.rules.specs.declared.clocks.SourceClock.{SourceClock}
-use Rattle.rules.specs.declared.clocks.DestinationClock.{DestinationClock}
+use Rattle.ground.specs.declared.clocks.SourceClock.{SourceClock}
+use Rattle.ground.specs.declared.clocks.DestinationClock.{DestinationClock}
 use Rattle.rules.specs.declared.held.HeldSlot.{HeldSlot}
 use Rattle.rules.specs.declared.held.HeldSlot.the-variants.{NoSlot, OneSlot}
 use Rattle.rules.specs.declared.held.HeldToken.{HeldToken}
@@ -16,12 +16,12 @@ use Rattle.station.specs.declared.held.SlotCell.{SlotCell}
 use Rattle.station.specs.declared.held.TokenCell.{TokenCell}
 use Rattle.station.specs.declared.station.Station.{Station}
 use Rattle.rules.specs.declared.side.Side.{Side}
-use Rattle.rules.specs.Limits.{mostStations}
+use Rattle.ground.specs.Limits.{mostStations}
 use Rattle.station.specs.Held.{noSlot, noToken, slotFor, tokenFor}
 use Rattle.station.specs.Side.{sideFor, putSide}
 use Rattle.station.specs.Sound.{slotSound, tokenSound, holdsNothing, isPeer}
-use Rattle.rules.proofs.Stores.{stored}
-use Rattle.rules.proofs.Below.{needed}
+use Rattle.ground.proofs.Stores.{stored}
+use Rattle.ground.proofs.Tests.{needed}
 use Rattle.station.proofs.Parts.{SoundStation}
 use Rattle.station.proofs.KeepsSide.{SoundSide}
 

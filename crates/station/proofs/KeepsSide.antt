@@ -5,20 +5,20 @@ use mathlib.Core.Bool.{Bool, true, false, cond, _&&_, and-false}
 use native.Mathlib.Omega.{arith}
 use lib.Dec.{eqb, ltb, leb}
 use borrow.Author.Tests.{ltb-true, eqb-true, lt-ltb, le-leb}
-use Rattle.rules.specs.declared.clocks.DestinationClock.{DestinationClock}
+use Rattle.ground.specs.declared.clocks.DestinationClock.{DestinationClock}
 use Rattle.rules.specs.declared.held.HeldSlot.{HeldSlot}
 use Rattle.rules.specs.declared.held.HeldSlot.the-variants.{NoSlot, OneSlot}
 use Rattle.rules.specs.declared.held.HeldToken.{HeldToken}
 use Rattle.rules.specs.declared.held.HeldToken.the-variants.{NoToken, OneToken}
 use Rattle.rules.specs.declared.message.Message.{Message}
 use Rattle.rules.specs.declared.side.Side.{Side}
-use Rattle.rules.specs.Limits.{mostValue, lastClock}
+use Rattle.ground.specs.Limits.{mostValue, lastClock}
 use Rattle.rules.specs.Half.{halfAbove}
 use Rattle.rules.specs.Side.{putValue, putSlot}
 use Rattle.station.specs.Sound.{slotSound, tokenSound}
 use Rattle.rules.specs.Rules.{acts, rests, agree, fill, fillBy, dropSlot, dropSlotBy, openSlot, openSlotBy, destinationShown, dropTokenBy, makeTokenBy}
 use Rattle.rules.specs.Taking.{takeOf}
-use Rattle.rules.proofs.Below.{needed}
+use Rattle.ground.proofs.Tests.{needed}
 use Rattle.rules.proofs.Signed.{half-cut}
 use Rattle.station.proofs.Parts.{SoundMessage}
 
@@ -65,14 +65,16 @@ module _ {o x : Side} (w : SoundSide o x) where
       ruled (leb 1 q && ltb (x .destination .0) lastClock) _ _
       (λ e.
       let some = needed (leb 1 q) (λ f. rw f at e) in
-      let early = ltb-true (x .destination .0) lastClock (needed (ltb (x .destination .0) lastClock) (λ f. simp (f, and-false) at e)) in
-      record {
+      let runs = needed (ltb (x .destination .0) lastClock) (λ f. simp (f, and-false) at e) in
+      let early = ltb-true (x .destination .0) lastClock runs in
+      rw runs
+      (record {
         value = w .value;
         source = w .source;
         destination = (omega arith, omega arith);
         slot = rw (some, le-leb _ _ fits, le-leb _ _ (shows .source), lt-ltb (x .destination .0) (x .destination .0 + 1) (omega arith));
         token = w .token;
-      })
+      }))
 
   -- the token made bears the source clock that then goes up, and a destination clock below the one
   -- that the message shows
@@ -82,17 +84,19 @@ module _ {o x : Side} (w : SoundSide o x) where
       ruled (eqb (l .source .0) (x .source .0) && ltb (x .source .0) lastClock) _ _
       (λ e.
       let same = eqb-true (l .source .0) (x .source .0) (needed (eqb (l .source .0) (x .source .0)) (λ f. rw f at e)) in
-      let early = ltb-true (x .source .0) lastClock (needed (ltb (x .source .0) lastClock) (λ f. simp (f, and-false) at e)) in
+      let runs = needed (ltb (x .source .0) lastClock) (λ f. simp (f, and-false) at e) in
+      let early = ltb-true (x .source .0) lastClock runs in
       let asked = ltb-true (l .destination .0) (m .destination .0) (needed (ltb (l .destination .0) (m .destination .0)) (λ f. simp (f, and-false) at sound)) in
       let q = min (x .value) (l .quantity) in
-      record {
+      rw runs
+      (record {
         value = omega arith;
         source = (omega arith, omega arith);
         destination = w .destination;
         slot = w .slot;
         token =
             rw (le-leb q mostValue (omega arith), le-leb (l .destination .0) lastClock (omega arith), lt-ltb (l .source .0) (x .source .0 + 1) (omega arith));
-      })
+      }))
 
 -- the five in order, where the value has room for the fill
 pub take-keeps : {o x : Side} (m : Message) → SoundSide o x → SoundMessage m → fill x m .side .value ≤ mostValue → SoundSide o (takeOf x m .side)

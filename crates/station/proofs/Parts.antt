@@ -4,18 +4,19 @@ use mathlib.Core.Path.{_≡_, refl}
 use mathlib.Core.Bool.{true, _||_, not, and-false}
 use lib.Dec.{ltb, leb, eqb}
 use borrow.Author.Tests.{ltb-true, leb-true, lt-ltb, le-leb, eqb-false, not-true}
-use Rattle.rules.specs.declared.clocks.SourceClock.{SourceClock}
+use Rattle.ground.specs.declared.clocks.SourceClock.{SourceClock}
 use Rattle.rules.specs.declared.held.HeldToken.{HeldToken}
 use Rattle.rules.specs.declared.held.HeldToken.the-variants.{NoToken, OneToken}
 use Rattle.station.specs.declared.station.Station.{Station}
 use Rattle.rules.specs.declared.message.Message.{Message}
-use Rattle.rules.specs.Limits.{mostStations, mostIntake, mostValue, lastClock}
+use Rattle.ground.specs.Limits.{mostStations, mostIntake, mostValue, lastClock}
 use Rattle.station.specs.Held.{slotFor, tokenFor}
-use Rattle.rules.specs.Below.{allBelow}
-use Rattle.rules.specs.Clocks.{clockSound}
+use Rattle.ground.specs.Below.{allBelow}
+use Rattle.ground.specs.Clocks.{clockSound}
 use Rattle.station.specs.Sound.{slotSound, tokenSound, holdsNothing, isPeer, cellsSound, stationSound, messageSound}
 use Rattle.rules.specs.Taking.{tokenSmall, tokenFits}
-use Rattle.rules.proofs.Below.{needed, all-at, all-from}
+use Rattle.ground.proofs.Tests.{needed}
+use Rattle.ground.proofs.Below.{all-at, all-from}
 
 pub record SoundStation (s : Station) : Type 0 where
   pub least : 2 ≤ s .count

@@ -2,18 +2,18 @@
 use Prim.Native.Nat.{ℕ}
 use mathlib.Core.Bool.{Bool, true, false, _&&_, _||_, not}
 use lib.Dec.{ltb, leb, eqb}
-use Rattle.rules.specs.declared.clocks.SourceClock.{SourceClock}
-use Rattle.rules.specs.declared.clocks.DestinationClock.{DestinationClock}
+use Rattle.ground.specs.declared.clocks.SourceClock.{SourceClock}
+use Rattle.ground.specs.declared.clocks.DestinationClock.{DestinationClock}
 use Rattle.rules.specs.declared.held.HeldSlot.{HeldSlot}
 use Rattle.rules.specs.declared.held.HeldSlot.the-variants.{NoSlot, OneSlot}
 use Rattle.rules.specs.declared.held.HeldToken.{HeldToken}
 use Rattle.rules.specs.declared.held.HeldToken.the-variants.{NoToken, OneToken}
 use Rattle.station.specs.declared.station.Station.{Station}
 use Rattle.rules.specs.declared.message.Message.{Message}
-use Rattle.rules.specs.Limits.{leastStations, mostStations, mostIntake, mostValue}
-use Rattle.rules.specs.Clocks.{clockSound}
+use Rattle.ground.specs.Limits.{leastStations, mostStations, mostIntake, mostValue}
+use Rattle.ground.specs.Clocks.{clockSound}
 use Rattle.station.specs.Held.{slotFor, tokenFor}
-use Rattle.rules.specs.Below.{allBelow}
+use Rattle.ground.specs.Below.{allBelow}
 
 -- a slot's quantity is at least 1, and its destination clock is below its holder's
 abbrev pub slotSound : HeldSlot → DestinationClock → Bool

@@ -1,6 +1,6 @@
 -- The entry points of one station: what each answers, under which conditions in which order, and
 -- what it does.
-use Prim.Native.Nat.{ℕ, zero, suc, _+_, _-_}
+use Prim.Native.Nat.{ℕ, _+_, _-_}
 use mathlib.Core.Bool.{Bool, not, _&&_}
 use mathlib.Core.List.{List, [], _∷_, _++_}
 use lib.Dec.{ltb, eqb}
@@ -9,11 +9,12 @@ use Rattle.rules.specs.declared.message.Message.{Message}
 use Rattle.rules.specs.declared.report.Report.{Report}
 use Rattle.rules.specs.declared.stock.Stock.{Stock}
 use Rattle.rules.specs.declared.taking.Taken.{Taken}
-use Rattle.rules.specs.Limits.{mostStations, mostIntake, mostValue}
-use Rattle.rules.specs.Answers.{done, notSound, notBelowCount, sameStation, badAmount, intakeLimit, noRecord, valueLimit, forAnother, tooFew}
+use Rattle.ground.specs.Limits.{mostStations, mostIntake, mostValue}
+use Rattle.ground.specs.Answers.{done, notSound, notBelowCount, sameStation, badAmount, intakeLimit, noRecord, valueLimit, forAnother, tooFew}
 use Rattle.rules.specs.Message.{noMessage}
 use Rattle.rules.specs.Report.{noReport}
-use Rattle.rules.specs.Refusals.{Refusal, when, answerOf}
+use Rattle.ground.specs.Refusals.{Refusal, when, answerOf}
+use Rattle.ground.specs.Choice.{ifDone}
 use Rattle.rules.specs.Stock.{amountSound}
 use Rattle.rules.specs.Rules.{fill}
 use Rattle.rules.specs.Taking.{takeOf}
@@ -125,9 +126,9 @@ showRefusals s to =
 abbrev pub showAnswer : Station → ℕ → ℕ
 showAnswer s to = answerOf (showRefusals s to)
 
+-- the answer, and the message where it is 0
 abbrev pub showing : ℕ → Message → Shown
-showing zero m = record { answer = done; message = m }
-showing (suc n) m = record { answer = suc n; message = noMessage }
+showing answer m = record { answer = answer; message = ifDone answer m noMessage }
 
 unfoldable pub showOf : Station → ℕ → Shown
 showOf s to = showing (showAnswer s to) (messageFor s to)

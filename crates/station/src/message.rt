@@ -1,11 +1,10 @@
 // The message that one station has for another.
 ghost use mathlib.Core.Path.{_≡_};
-ghost use Rattle.rules.specs.Message.{noMessage};
 ghost use Rattle.station.specs.Steps.{showAnswer, showOf};
 use crate::side::side_for;
 use crate::sound::station_is_sound;
 use crate::station::Station;
-use rules::answers;
+use ground::answers;
 use rules::message::Message;
 use rules::message::no_message;
 

@@ -1,6 +1,6 @@
 // A station receives a message by value.
 ghost use mathlib.Core.Path.{_≡_};
-ghost use Rattle.rules.specs.Answers.{done};
+ghost use Rattle.ground.specs.Answers.{done};
 ghost use Rattle.station.specs.Steps.{meetAnswer, receiveOf};
 use crate::outcome::Outcome;
 use crate::outcome::refuse;
@@ -9,7 +9,7 @@ use crate::side::side_for;
 use crate::sound::message_is_sound;
 use crate::sound::station_is_sound;
 use crate::station::Station;
-use rules::answers;
+use ground::answers;
 use rules::message::Message;
 use rules::taking::take;
 

@@ -1,7 +1,7 @@
 // The part of a station that the five rules see, taken out and put back.
 ghost use mathlib.Core.Path.{_≡_};
 ghost use Prim.Native.Nat.{_<_};
-ghost use Rattle.rules.specs.Limits.{mostStations};
+ghost use Rattle.ground.specs.Limits.{mostStations};
 ghost use Rattle.station.specs.Side.{sideFor, putSide};
 use crate::held::SlotCell;
 use crate::held::TokenCell;

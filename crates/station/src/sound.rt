@@ -1,17 +1,17 @@
 // The tests of soundness, each proved equal to its definition.
 ghost use mathlib.Core.Path.{_≡_};
-ghost use Rattle.rules.specs.Limits.{mostStations};
-ghost use Rattle.rules.specs.Below.{allBelow};
+ghost use Rattle.ground.specs.Limits.{mostStations};
+ghost use Rattle.ground.specs.Below.{allBelow};
 ghost use Rattle.station.specs.Sound.{slotSound, tokenSound, holdsNothing, cellsSound, countSound, stationSound, messageSound};
 use crate::station::Station;
-use rules::clocks::DestinationClock;
-use rules::clocks::SourceClock;
+use ground::clocks::DestinationClock;
+use ground::clocks::SourceClock;
+use ground::limits::LEAST_STATIONS;
+use ground::limits::MOST_INTAKE;
+use ground::limits::MOST_STATIONS;
+use ground::limits::MOST_VALUE;
 use rules::held::HeldSlot;
 use rules::held::HeldToken;
-use rules::limits::LEAST_STATIONS;
-use rules::limits::MOST_INTAKE;
-use rules::limits::MOST_STATIONS;
-use rules::limits::MOST_VALUE;
 use rules::message::Message;
 
 pub fn slot_is_sound(held: HeldSlot, clock: DestinationClock) -> bool

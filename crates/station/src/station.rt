@@ -1,9 +1,9 @@
 // A station by value.
 use crate::held::SlotCell;
 use crate::held::TokenCell;
-use rules::clocks::DestinationClock;
-use rules::clocks::SourceClock;
-use rules::limits::MOST_STATIONS;
+use ground::clocks::DestinationClock;
+use ground::clocks::SourceClock;
+use ground::limits::MOST_STATIONS;
 
 // Its own number and the count of stations, its value, its intake, its two clocks, and for every
 // peer at most one slot and at most one token.

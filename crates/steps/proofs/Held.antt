@@ -13,8 +13,8 @@ use borrow.Author.Tests.{eqb-true, eqb-false}
 use Rattle.rules.specs.declared.held.HeldSlot.the-variants.{NoSlot}
 use Rattle.rules.specs.declared.held.HeldToken.the-variants.{NoToken}
 use Rattle.rules.specs.declared.side.Side.{Side}
-use Rattle.rules.specs.Limits.{mostStations}
-use Rattle.rules.proofs.Stores.{stored}
+use Rattle.ground.specs.Limits.{mostStations}
+use Rattle.ground.proofs.Stores.{stored}
 use Rattle.station.specs.declared.station.Station.{Station}
 use Rattle.station.specs.declared.held.SlotCell.{SlotCell}
 use Rattle.station.specs.declared.held.TokenCell.{TokenCell}

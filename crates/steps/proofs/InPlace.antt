@@ -12,15 +12,16 @@ use Rattle.rules.specs.declared.held.HeldToken.{HeldToken}
 use Rattle.rules.specs.declared.held.HeldToken.the-variants.{NoToken, OneToken}
 use Rattle.rules.specs.declared.message.Message.{Message}
 use Rattle.rules.specs.declared.stock.Stock.{Stock}
-use Rattle.rules.specs.Answers.{badAmount, intakeLimit, valueLimit, tooFew}
-use Rattle.rules.specs.Limits.{mostStations, mostIntake, mostValue}
-use Rattle.rules.specs.Refusals.{when, answerOf}
+use Rattle.ground.specs.Answers.{badAmount, intakeLimit, valueLimit, tooFew}
+use Rattle.ground.specs.Limits.{mostStations, mostIntake, mostValue}
+use Rattle.ground.specs.Refusals.{when, answerOf}
 use Rattle.rules.specs.Report.{noReport}
 use Rattle.rules.specs.Rules.{fill}
 use Rattle.rules.specs.Stock.{amountSound, stocked, addedTo, drawnFrom, addDone, drawDone}
-use Rattle.rules.specs.Taking.{takeOf, takenBy, takenOf, messageSmall, tokenSmall}
-use Rattle.rules.proofs.Below.{both-hold, needed}
-use Rattle.rules.proofs.Refusing.{passed}
+use Rattle.rules.specs.Taking.{takeOf, refusedTaking, takenOf, messageSmall, tokenSmall}
+use Rattle.ground.proofs.Tests.{both-hold, needed}
+use Rattle.ground.proofs.Refusing.{passed}
+use Rattle.ground.specs.Choice.{ifDone}
 use Rattle.station.specs.Side.{sideFor}
 use Rattle.station.specs.Sound.{tokenSound}
 use Rattle.station.specs.Steps.{messageFor}
@@ -78,7 +79,7 @@ acted-by t k j m false e =
     let x = sideFor (stationAt t k) j in
     rw (e, rests-same x m e, side-same (stationAt t k) j, station-same t k)
 
-deliver-by : (t : Table) (k j n : ℕ) (m : Message) → let x = sideFor (stationAt t k) j in let r = takenBy n x (takeOf x m) in
+deliver-by : (t : Table) (k j n : ℕ) (m : Message) → let x = sideFor (stationAt t k) j in let r = ifDone n (takeOf x m) (refusedTaking n x) in
     stepped t k j (sidePlan r) ≡ answeredStep n t (did (takeOf x m .result) (takeOf x m .report) (changed t k j (AtSide (takeOf x m .side))))
 unfolding takeOf
 deliver-by t k j zero m = acted-by t k j m (actedIn (takeOf (sideFor (stationAt t k) j) m .report)) refl

@@ -7,11 +7,11 @@ use native.Mathlib.Omega.{arith}
 use lib.Dec.{ltb, eqb}
 use borrow.Author.Tests.{ltb-true, ltb-false, lt-ltb, eq-eqb, ne-eqb, eqb-false, not-false}
 use Rattle.rules.specs.declared.message.Message.{Message}
-use Rattle.rules.specs.Limits.{mostValue, mostIntake}
-use Rattle.rules.specs.Refusals.{when, answerOf}
+use Rattle.ground.specs.Limits.{mostValue, mostIntake}
+use Rattle.ground.specs.Refusals.{when, answerOf}
 use Rattle.rules.specs.Stock.{amountSound}
-use Rattle.rules.proofs.Below.{both-hold}
-use Rattle.rules.proofs.Refusing.{passed}
+use Rattle.ground.proofs.Tests.{both-hold}
+use Rattle.ground.proofs.Refusing.{passed}
 use Rattle.station.specs.Steps.{putStock, showAnswer, messageFor, receiveAnswer, receiveOf}
 use Rattle.station.proofs.Keeps.{stock-sound, message-sound, receive-keeps}
 use Rattle.station.proofs.Parts.{station-parts}

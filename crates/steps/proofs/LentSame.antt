@@ -16,7 +16,7 @@ use Rattle.pool.specs.declared.places.Place.{Place}
 use Rattle.steps.specs.declared.asked.Step.the-variants.{Send, Lose}
 use Rattle.table.specs.declared.stepped.Stepped.{Stepped}
 use Rattle.table.specs.declared.table.Table.{Table}
-use Rattle.pool.specs.declared.lent.Told.{Told}
+use Rattle.ground.specs.declared.told.Told.{Told}
 use Rattle.pool.specs.Pool.{mostPlaces, lowestEmpty}
 use Rattle.table.specs.Table.{stationAt, waitingAt}
 use Rattle.table.specs.Sound.{tableSound}

@@ -1,5 +1,3 @@
-pub mod Plans
-pub mod Fives
 pub mod Flags
 pub mod Held
 pub mod Rests

@@ -1,5 +1,5 @@
 -- What is looked up is there, and so is a place that a plan changes. Assumes nothing.
-use Prim.Native.Nat.{ℕ, zero, suc, _<_}
+use Prim.Native.Nat.{ℕ, _<_}
 use mathlib.Core.Path.{_≡_, refl}
 use mathlib.Core.Bool.{Bool, true, false, cond, not, _&&_}
 use native.Mathlib.Omega.{arith}
@@ -7,10 +7,11 @@ use lib.Dec.{ltb, eqb}
 use borrow.Author.Tests.{ltb-true, not-false}
 use Rattle.rules.specs.declared.side.Side.{Side}
 use Rattle.rules.specs.declared.taking.Taken.{Taken}
-use Rattle.rules.specs.Limits.{mostStations}
+use Rattle.ground.specs.Limits.{mostStations}
 use Rattle.rules.specs.Stock.{addedTo, drawnFrom}
 use Rattle.rules.specs.Taking.{takenOf}
-use Rattle.rules.proofs.Refusing.{passed}
+use Rattle.ground.proofs.Refusing.{passed}
+use Rattle.ground.proofs.Choices.{either-way}
 use Rattle.steps.specs.declared.looking.Looked.{Looked}
 use Rattle.steps.specs.declared.planning.Change.the-variants.{Nothing, AtSide, AtPlace}
 use Rattle.steps.specs.declared.planning.Plan.{Plan}
@@ -21,7 +22,7 @@ use Rattle.steps.specs.declared.asked.Asked.the-variants.{NoStep, OneSte
 use Rattle.steps.specs.declared.asked.Step.the-variants.{Add, Draw, Send, Deliver, Lose}
 use Rattle.pool.specs.Pool.{mostPlaces}
 use Rattle.steps.specs.Looking.{below, placeLookedAt, lookedAt, endsOf, seatLookedAt}
-use Rattle.steps.specs.Planning.{planned, stockDone, placePlan, messageBy, sendAnswer, actedIn, sideDone, placeAnswer, deliverBy, loseBy, planAt, InPool}
+use Rattle.steps.specs.Planning.{refusedPlan, planned, stockDone, placePlan, messageBy, sendAnswer, actedIn, sideDone, placeAnswer, deliverBy, loseBy, planAt, InPool}
 
 below-lt : (n limit : ℕ) → 0 < limit → below n limit < limit
 below-lt n limit h = by (ltb n limit) refl
@@ -58,8 +59,7 @@ seat-there asked w e = rw e (seat-by asked w)
 
 -- a plan that is refused changes nothing
 by-plan : (n : ℕ) (p : Plan) → (n ≡ 0 → InPool (p .change)) → InPool (planned n p .change)
-by-plan zero p f = f refl
-by-plan (suc n) p f = tt
+by-plan n p f = either-way (λ (q : Plan). InPool (q .change)) n p (refusedPlan n) f tt
 
 side-pool : (r : Taken) (b : Bool) → InPool (cond b (AtSide (r .side)) Nothing)
 side-pool r true = tt

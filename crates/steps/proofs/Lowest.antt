@@ -1,6 +1,6 @@
 -- The place that a send takes: it was empty, every place before it holds a message, and a place
 -- freed by a loss is used again. Assumes nothing.
-use Prim.Native.Nat.{ℕ, zero, suc, _+_, _<_, _≤_}
+use Prim.Native.Nat.{ℕ, zero, suc, _<_, _≤_}
 use mathlib.Core.Path.{_≡_, refl, sym, _∙_, ap}
 use mathlib.Core.Bool.{Bool, true, false}
 use mathlib.Core.List.{List, [], _∷_}
@@ -10,56 +10,19 @@ use lib.ListN.{set}
 use lib.Seq.{getD-set-other}
 use borrow.Author.Tests.{ltb-true, ltb-false}
 use Rattle.rules.specs.declared.message.Message.{Message}
-use Rattle.rules.specs.Refusals.{answerOf}
+use Rattle.ground.specs.Refusals.{answerOf}
+use Rattle.ground.proofs.First.{first-holds, first-after, first-least}
 use Rattle.pool.specs.declared.places.Waiting.{Waiting}
 use Rattle.pool.specs.declared.places.Waiting.the-variants.{Empty, One}
 use Rattle.pool.specs.declared.places.Place.{Place}
 use Rattle.steps.specs.declared.asked.Step.the-variants.{Send, Lose}
 use Rattle.table.specs.declared.stepped.Stepped.{Stepped}
 use Rattle.table.specs.declared.table.Table.{Table}
-use Rattle.pool.specs.Pool.{mostPlaces, placeIn, isEmpty, firstFrom, lowestEmpty}
+use Rattle.pool.specs.Pool.{mostPlaces, placeIn, isEmpty, lowestEmpty}
 use Rattle.table.specs.Table.{waitingAt}
 use Rattle.steps.specs.Steps.{stepRefusals, stepOf}
 use Rattle.steps.proofs.Kept.{sends}
 use Rattle.steps.proofs.Ran.{step-answers}
-
--- of the first number from i on at which a test holds: it holds there, and at no number before
-module _ (test : ℕ → Bool) where
-  -- an earlier number is the first one looked at, where the test does not hold, or comes later
-  past : (i k : ℕ) → i ≤ k → test i ≡ false → (i + 1 ≤ k → test k ≡ false) → test k ≡ false
-  past i k low e f = by (ltb i k) refl
-    where
-      by : (b : Bool) → ltb i k ≡ b → test k ≡ false
-      by true l = let x = ltb-true i k l in f (omega arith)
-      by false l = let x = ltb-false i k l in let same : k ≡ i = omega arith in rw same e
-
-  first-holds : (n i : ℕ) → firstFrom test n i < i + n → test (firstFrom test n i) ≡ true
-  unfolding firstFrom
-  first-holds zero i h = absurd (omega arith)
-  first-holds (suc n) i h = by (test i) refl (λ l. first-holds n (i + 1) l)
-    where
-      by : (b : Bool) → test i ≡ b → (firstFrom test n (i + 1) < i + 1 + n → test (firstFrom test n (i + 1)) ≡ true) → test (firstFrom test (suc n) i) ≡ true
-      by true e f = rw (e, e)
-      by false e f = rw e (f (let l : firstFrom test n (i + 1) < i + suc n = rw e at h in omega arith))
-
-  first-after : (n i k : ℕ) → i ≤ k → k < firstFrom test n i → test k ≡ false
-  unfolding firstFrom
-  first-after zero i k low h = absurd (omega arith)
-  first-after (suc n) i k low h = by (test i) refl (λ l m. first-after n (i + 1) k l m)
-    where
-      by : (b : Bool) → test i ≡ b → (i + 1 ≤ k → k < firstFrom test n (i + 1) → test k ≡ false) → test k ≡ false
-      by true e f = let l : k < i = rw e at h in absurd (omega arith)
-      by false e f = past i k low e (λ l. f l (rw e at h))
-
-  first-least : (n i k : ℕ) → i ≤ k → test k ≡ true → firstFrom test n i ≤ k
-  first-least n i k low e = by (ltb k (firstFrom test n i)) refl
-    where
-      by : (b : Bool) → ltb k (firstFrom test n i) ≡ b → firstFrom test n i ≤ k
-      by true l =
-          let f = first-after n i k low (ltb-true _ _ l) in
-          let z : _≡_ {A = ℕ} 0 1 = cc in
-          absurd (omega arith)
-      by false l = ltb-false _ _ l
 
 -- a place holds a message
 abbrev pub Taken : Table → ℕ → Type 0

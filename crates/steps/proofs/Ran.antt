@@ -1,5 +1,5 @@
 -- What a run promises, and that a run of one step is that step. Assumes nothing.
-use Prim.Native.Nat.{ℕ, zero, suc, _<_, _%_}
+use Prim.Native.Nat.{ℕ, _<_, _%_}
 use mathlib.Core.Path.{_≡_, refl, _∙_}
 use mathlib.Core.Bool.{Bool, true, false, cond, _&&_}
 use mathlib.Core.List.{List, [], _∷_}
@@ -10,9 +10,10 @@ use lib.Dec.{ltb}
 use lib.ListN.{getD, replicate}
 use lib.Seq.{sets}
 use Rattle.rules.specs.declared.report.Report.{Report}
-use Rattle.rules.specs.Refusals.{Refusal, answerOf}
+use Rattle.ground.specs.Refusals.{Refusal, answerOf}
 use Rattle.rules.specs.Report.{noReport, rulesOf}
-use Rattle.rules.proofs.Below.{both-hold}
+use Rattle.ground.proofs.Tests.{both-hold}
+use Rattle.ground.proofs.Choices.{answer-told}
 use Rattle.pool.specs.declared.places.Waiting.{Waiting}
 use Rattle.pool.specs.declared.places.Waiting.the-variants.{Empty, One}
 use Rattle.steps.specs.declared.running.Ran.{Ran}
@@ -22,7 +23,6 @@ use Rattle.table.specs.declared.stepped.Stepped.{Stepped}
 use Rattle.table.specs.declared.table.Table.{Table}
 use Rattle.table.specs.Table.{waitingAt}
 use Rattle.table.specs.Sound.{tableSound}
-use Rattle.table.specs.Stepped.{answeredStep}
 use Rattle.steps.specs.Steps.{delivered, stepRefusals, stepDone, stepOf}
 use Rattle.steps.specs.Running.{stepNumbers, tells, askedIn, toldBy, leftBy, stepsIn, ranOf, toldOf, Runs, reportOf, ranBy}
 
@@ -97,13 +97,9 @@ done-answers t (Deliver p) = by (waitingAt t p)
     by (One m) = refl
 done-answers t (Lose p) = refl
 
-answered-by : (n : ℕ) (t : Table) (d : Stepped) → d .answer ≡ 0 → answeredStep n t d .answer ≡ n
-answered-by zero t d e = e
-answered-by (suc n) t d e = refl
-
 pub step-answers : (t : Table) (step : Step) → stepOf t step .answer ≡ answerOf (stepRefusals t step)
 unfolding stepOf
-step-answers t step = answered-by (answerOf (stepRefusals t step)) t (stepDone t step) (done-answers t step)
+step-answers t step = answer-told (λ (x : Stepped). x .answer) (answerOf (stepRefusals t step)) (stepDone t step) _ (done-answers t step) refl
 
 -- three numbers tell the report
 abbrev told : ℕ → ℕ → Bool → Bool → Bool → Bool → Bool → Report

@@ -1,21 +1,21 @@
 -- Where no rule acts the side stays as it is, and what is put back as it was changes nothing.
 -- Assumes nothing.
-use Prim.Native.Nat.{ℕ, zero, suc, _+_, min}
-use mathlib.Core.Path.{_≡_, refl, ap, _∙_}
+use Prim.Native.Nat.{ℕ, _+_, min}
+use mathlib.Core.Path.{_≡_, refl, _∙_}
 use mathlib.Core.Bool.{Bool, true, false, cond, _&&_, true≢false, or-true}
-use mathlib.Core.List.{List, [], _∷_}
 use lib.Dec.{eqb, leb, ltb}
-use lib.ListN.{getD, set}
-use Rattle.rules.specs.declared.clocks.DestinationClock.{DestinationClock}
+use Rattle.ground.proofs.Stores.{set-same}
+use Rattle.ground.specs.declared.clocks.DestinationClock.{DestinationClock}
 use Rattle.rules.specs.declared.held.HeldSlot.{HeldSlot}
 use Rattle.rules.specs.declared.held.HeldSlot.the-variants.{NoSlot, OneSlot}
 use Rattle.rules.specs.declared.held.HeldToken.{HeldToken}
 use Rattle.rules.specs.declared.held.HeldToken.the-variants.{NoToken, OneToken}
 use Rattle.rules.specs.declared.message.Message.{Message}
 use Rattle.rules.specs.declared.side.Side.{Side}
-use Rattle.rules.specs.Clocks.{destinationNext}
+use Rattle.ground.specs.Clocks.{destinationNext}
 use Rattle.rules.specs.Half.{halfAbove}
-use Rattle.rules.specs.Limits.{lastClock}
+use Rattle.ground.specs.Limits.{lastClock}
+use Rattle.ground.proofs.Tests.{not-allowed}
 use Rattle.rules.specs.Side.{putValue, putDestination, putSlot, putToken}
 use Rattle.rules.specs.Rules.{acts, rests, agree, give, fillBy, fill, dropSlotBy, dropSlot, openSlotBy, openSlot, destinationShown, dropTokenBy, dropToken, makeTokenBy, makeToken}
 use Rattle.rules.specs.Taking.{takeOf}
@@ -57,10 +57,6 @@ module _ (x : Side) where
       let q = min (x .value) (l .quantity) in
       chosen (eqb (l .source .0) (x .source .0) && ltb (x .source .0) lastClock) q (give x l q) e
 
-quiet : (t : Bool) → (t ≡ true → true ≡ false) → t ≡ false
-quiet true f = f refl
-quiet false f = refl
-
 pub rests-same : (x : Side) (m : Message) → actedIn (takeOf x m .report) ≡ false → takeOf x m .side ≡ x
 unfolding takeOf
 rests-same x m e =
@@ -69,17 +65,11 @@ rests-same x m e =
     let three = openSlot (two .side) m in
     let four = dropToken (three .side) m in
     let five = makeToken (four .side) m in
-    make-token-rests (four .side) (m .slot) (quiet (five .acted) (λ f. simp (f, or-true) at e))
-    ∙ drop-token-rests (three .side) (destinationShown m) (three .side .token) (quiet (four .acted) (λ f. simp (f, or-true) at e))
-    ∙ open-slot-rests (two .side) m (halfAbove (m .value) (two .side .value)) (two .side .slot) (quiet (three .acted) (λ f. simp (f, or-true) at e))
-    ∙ drop-slot-rests (one .side) m (one .side .slot) (quiet (two .acted) (λ f. simp (f, or-true) at e))
-    ∙ fill-rests x (m .token) (x .slot) (quiet (one .acted) (λ f. simp (f, or-true) at e))
-
--- an element put back where it stood
-pub set-same : {A : Type 0} (xs : List A) (k : ℕ) (d : A) → set xs k (getD xs k d) ≡ xs
-set-same [] k d = refl
-set-same (x ∷ xs) zero d = refl
-set-same {A = A} (x ∷ xs) (suc k) d = ap (λ (rest : List A). x ∷ rest) (set-same xs k d)
+    make-token-rests (four .side) (m .slot) (not-allowed (five .acted) (λ f. simp (f, or-true) at e))
+    ∙ drop-token-rests (three .side) (destinationShown m) (three .side .token) (not-allowed (four .acted) (λ f. simp (f, or-true) at e))
+    ∙ open-slot-rests (two .side) m (halfAbove (m .value) (two .side .value)) (two .side .slot) (not-allowed (three .acted) (λ f. simp (f, or-true) at e))
+    ∙ drop-slot-rests (one .side) m (one .side .slot) (not-allowed (two .acted) (λ f. simp (f, or-true) at e))
+    ∙ fill-rests x (m .token) (x .slot) (not-allowed (one .acted) (λ f. simp (f, or-true) at e))
 
 pub side-same : (s : Station) (j : ℕ) → putSide s j (sideFor s j) ≡ s
 side-same s j = rw (set-same (s .slots) j noSlot, set-same (s .tokens) j noToken)

@@ -11,9 +11,9 @@ use lib.Seq.{getD-set-same, getD-set-other}
 use borrow.Author.Tests.{eq-eqb, lt-ltb, ne-eqb}
 use Rattle.rules.specs.declared.message.Message.{Message}
 use Rattle.rules.specs.declared.report.Report.{Report}
-use Rattle.rules.specs.Answers.{badAmount, intakeLimit, valueLimit, tooFew}
-use Rattle.rules.specs.Limits.{mostStations, mostIntake, mostValue}
-use Rattle.rules.specs.Refusals.{when, answerOf}
+use Rattle.ground.specs.Answers.{badAmount, intakeLimit, valueLimit, tooFew}
+use Rattle.ground.specs.Limits.{mostStations, mostIntake, mostValue}
+use Rattle.ground.specs.Refusals.{when, answerOf}
 use Rattle.rules.specs.Report.{noReport}
 use Rattle.rules.specs.Stock.{amountSound}
 use Rattle.rules.specs.Taking.{takeOf}

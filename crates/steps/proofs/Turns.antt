@@ -1,14 +1,14 @@
 -- One turn of the loop that holds a table: what is still to be done from there gives the whole.
 -- Assumes nothing.
-use Prim.Native.Nat.{ℕ, zero, suc, _+_, _*_, _-_, _<_, _≤_}
+use Prim.Native.Nat.{ℕ, _+_, _*_, _<_, _≤_}
 use mathlib.Core.Path.{_≡_, refl, _∙_, ap}
 use mathlib.Core.Bool.{true}
-use mathlib.Core.List.{List, [], _∷_, _++_}
+use mathlib.Core.List.{List, _∷_, _++_}
 use native.Mathlib.Omega.{arith}
 use lib.ListN.{length, getD, set}
 use lib.Seq.{sets, length-sets}
+use Rattle.ground.proofs.Stores.{set-twice, then}
 use Rattle.rules.specs.declared.side.Side.{Side}
-use Rattle.rules.proofs.Stores.{then}
 use Rattle.station.specs.Side.{sideFor}
 use Rattle.station.specs.Steps.{putStock}
 use Rattle.steps.specs.declared.cells.Cells.{Cells}
@@ -81,12 +81,6 @@ pub found : (t : Table) (asked : Asked) {taken : List ℕ} {i free : ℕ} {l : L
     → p ≡ planAt (t .count) asked (stationAt t (l .station) .intake) x (waitingAt t i) free → next ≡ changed t (l .station) (l .peer) (p .change)
     → record { answer = p .answer; result = p .result; report = p .report; table = next } ≡ askedStep t asked
 found t asked p sound flags ei ef el ex ep en = rw (en, ep, ex, el, ef, ei, flags) (placed t sound asked)
-
--- two stores at one place
-set-twice : {A : Type 0} (xs : List A) (k : ℕ) (a d : A) (f : A → A) → set (set xs k a) k (f (getD (set xs k a) k d)) ≡ set xs k (f a)
-set-twice [] k a d f = refl
-set-twice (x ∷ xs) zero a d f = refl
-set-twice {A = A} (x ∷ xs) (suc k) a d f = ap (λ (rest : List A). x ∷ rest) (set-twice xs k a d f)
 
 pub stocked : (t : Table) (k value intake : ℕ) → let s = stationAt t k in
     record {

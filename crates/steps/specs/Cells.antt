@@ -2,7 +2,7 @@
 use Prim.Native.Nat.{ℕ, zero, suc, _+_, _*_, _/_, _%_}
 use mathlib.Core.List.{List, [], _∷_}
 use Rattle.rules.specs.declared.side.Side.{Side}
-use Rattle.rules.specs.Limits.{mostStations}
+use Rattle.ground.specs.Limits.{mostStations}
 use Rattle.station.specs.declared.station.Station.{Station}
 use Rattle.station.specs.Held.{slotFor, tokenFor}
 use Rattle.steps.specs.declared.cells.Cells.{Cells}

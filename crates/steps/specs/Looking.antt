@@ -5,7 +5,7 @@ use mathlib.Core.Bool.{cond}
 use mathlib.Core.List.{List, map}
 use lib.Dec.{ltb, eqb}
 use lib.ListN.{getD}
-use Rattle.rules.specs.Limits.{mostStations}
+use Rattle.ground.specs.Limits.{mostStations}
 use Rattle.steps.specs.declared.looking.Looked.{Looked}
 use Rattle.pool.specs.declared.places.Place.{Place}
 use Rattle.pool.specs.declared.places.Waiting.{Waiting}
@@ -13,7 +13,8 @@ use Rattle.pool.specs.declared.places.Waiting.the-variants.{Empty, One}
 use Rattle.steps.specs.declared.asked.Asked.{Asked}
 use Rattle.steps.specs.declared.asked.Asked.the-variants.{NoStep, OneStep}
 use Rattle.steps.specs.declared.asked.Step.the-variants.{Add, Draw, Send, Deliver, Lose}
-use Rattle.pool.specs.Pool.{mostPlaces, firstFrom}
+use Rattle.pool.specs.Pool.{mostPlaces}
+use Rattle.ground.specs.First.{firstFrom}
 
 -- a number, or 0 where it is not below a limit
 abbrev pub below : ℕ → ℕ → ℕ

@@ -1,6 +1,6 @@
 -- What a step will do, by no more of a table than it looks at: the count, one station's stock and
 -- its side to one peer, what waits at one place, and the lowest-numbered empty place.
-use Prim.Native.Nat.{ℕ, zero, suc, _<_}
+use Prim.Native.Nat.{ℕ, _<_}
 use mathlib.Core.Bool.{Bool, cond, not, _&&_, _||_}
 use mathlib.Core.List.{[], _∷_}
 use lib.Dec.{ltb, eqb}
@@ -9,8 +9,9 @@ use Rattle.rules.specs.declared.report.Report.{Report}
 use Rattle.rules.specs.declared.side.Side.{Side}
 use Rattle.rules.specs.declared.stock.Stock.{Stock}
 use Rattle.rules.specs.declared.taking.Taken.{Taken}
-use Rattle.rules.specs.Answers.{done, notBelowCount, sameStation, poolFull, noSuchPlace, emptyPlace, badLine}
-use Rattle.rules.specs.Refusals.{when, answerOf}
+use Rattle.ground.specs.Answers.{done, notBelowCount, sameStation, poolFull, noSuchPlace, emptyPlace, badLine}
+use Rattle.ground.specs.Refusals.{when, answerOf}
+use Rattle.ground.specs.Choice.{ifDone}
 use Rattle.rules.specs.Report.{noReport}
 use Rattle.rules.specs.Stock.{addedTo, drawnFrom}
 use Rattle.rules.specs.Taking.{takenOf}
@@ -34,8 +35,7 @@ refusedPlan n = record { answer = n; result = 0; report = noReport; change = Not
 
 -- answer 0 is the plan; any other is a refusal
 abbrev pub planned : ℕ → Plan → Plan
-planned zero p = p
-planned (suc n) p = refusedPlan (suc n)
+planned answer p = ifDone answer p (refusedPlan answer)
 
 -- add and draw: 2, then as the stock tells
 abbrev pub stockDone : Stock → Plan

@@ -8,7 +8,7 @@ use lib.Dec.{eqb}
 use lib.ListN.{length, getD, drop}
 use lib.Seq.{sets}
 use Rattle.rules.specs.declared.report.Report.{Report}
-use Rattle.rules.specs.Answers.{done, notSound, badLine}
+use Rattle.ground.specs.Answers.{done, notSound, badLine}
 use Rattle.rules.specs.Report.{noReport, rulesOf}
 use Rattle.steps.specs.declared.running.Ran.{Ran}
 use Rattle.steps.specs.declared.asked.Asked.{Asked}

@@ -5,9 +5,9 @@ use mathlib.Core.Bool.{Bool, false, not, _&&_}
 use mathlib.Core.List.{List, [], _∷_}
 use lib.Dec.{ltb, eqb}
 use Rattle.rules.specs.declared.message.Message.{Message}
-use Rattle.rules.specs.Answers.{notBelowCount, sameStation, badAmount, intakeLimit, poolFull, noSuchPlace, emptyPlace, valueLimit, tooFew}
-use Rattle.rules.specs.Limits.{mostIntake, mostValue}
-use Rattle.rules.specs.Refusals.{Refusal, when, answerOf}
+use Rattle.ground.specs.Answers.{notBelowCount, sameStation, badAmount, intakeLimit, poolFull, noSuchPlace, emptyPlace, valueLimit, tooFew}
+use Rattle.ground.specs.Limits.{mostIntake, mostValue}
+use Rattle.ground.specs.Refusals.{Refusal, when, answerOf}
 use Rattle.rules.specs.Report.{noReport}
 use Rattle.rules.specs.Rules.{fill}
 use Rattle.rules.specs.Stock.{amountSound}

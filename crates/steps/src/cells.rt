@@ -2,13 +2,13 @@
 // one of: of a station in an array no single cell can be read.
 ghost use mathlib.Core.Path.{_≡_};
 ghost use Prim.Native.Nat.{_<_};
-ghost use Rattle.rules.specs.Limits.{mostStations};
+ghost use Rattle.ground.specs.Limits.{mostStations};
 ghost use Rattle.steps.specs.Cells.{cellsFor, cellsOf, sideBy};
-use rules::clocks::DestinationClock;
-use rules::clocks::SourceClock;
+use ground::clocks::DestinationClock;
+use ground::clocks::SourceClock;
+use ground::limits::MOST_STATIONS;
 use rules::held::HeldSlot;
 use rules::held::HeldToken;
-use rules::limits::MOST_STATIONS;
 use rules::side::Side;
 use station::station::Station;
 

@@ -6,9 +6,9 @@ ghost use Rattle.pool.specs.Pool.{mostPlaces};
 use crate::asked::Asked;
 use crate::asked::Step;
 use crate::taken::lowest_empty;
+use ground::limits::MOST_STATIONS;
 use pool::places::MOST_PLACES;
 use pool::places::Waiting;
-use rules::limits::MOST_STATIONS;
 
 // A station and a peer of it.
 pub struct Looked {

@@ -6,7 +6,7 @@ use crate::asked::Asked;
 use crate::asked::Step;
 use crate::asked::numbers_for;
 use crate::running::run;
-use rules::answers;
+use ground::answers;
 use rules::report::Report;
 use rules::report::no_report;
 use table::stepped::Stepped;

@@ -1,6 +1,7 @@
 -- A fresh table is sound. Assumes nothing.
 use Prim.Native.Nat.{ℕ, zero, suc, _<_, _≤_}
-use mathlib.Core.Path.{_≡_, refl, _∙_}
+use mathlib.Core.Path.{_≡_, refl, sym, _∙_}
+use mathlib.Core.Logic.{⊎-elim}
 use mathlib.Core.Bool.{Bool, true, false}
 use native.Mathlib.Omega.{arith}
 use native.Mathlib.Decide.{ℕ-discrete}
@@ -9,10 +10,10 @@ use lib.ListN.{length, getD, set, length-set, getD-replicate}
 use lib.Seq.{getD-set-same, getD-set-other}
 use borrow.Author.Tests.{leb-true, ltb-true, le-leb, lt-leb, lt-ltb, eq-eqb, ltb-false}
 use Rattle.station.specs.declared.station.Station.{Station}
-use Rattle.rules.specs.Limits.{mostStations}
+use Rattle.ground.specs.Limits.{mostStations}
 use Rattle.station.specs.Sound.{countSound, stationSound}
 use Rattle.station.specs.Steps.{blank, freshAnswer, freshOf as freshStation}
-use Rattle.rules.proofs.Below.{both-hold}
+use Rattle.ground.proofs.Tests.{both-hold, below-or-last}
 use Rattle.station.proofs.Keeps.{fresh-sound}
 use Rattle.pool.specs.declared.places.Place.{Place}
 use Rattle.pool.specs.declared.places.Waiting.the-variants.{Empty}
@@ -32,11 +33,7 @@ next-seat : (count n k : ℕ) (d : Station) → n < mostStations → (k < n → 
     → getD (set (seatsTo count n) n (blank n count)) k d ≡ blank k count
 next-seat count n k d most before (yes e) h = rw e (getD-set-same (seatsTo count n) n (blank n count) d (omega (arith, length-seats count n)))
 next-seat count n k d most before (no other) h =
-    getD-set-other (seatsTo count n) n k (blank n count) d other ∙ before (below-or-last (ltb k n) refl)
-  where
-    below-or-last : (b : Bool) → ltb k n ≡ b → k < n
-    below-or-last true e = ltb-true k n e
-    below-or-last false e = let l = ltb-false k n e in absurd (other (omega arith))
+    getD-set-other (seatsTo count n) n k (blank n count) d other ∙ before (⊎-elim (λ l. l) (λ e. absurd (other (sym e))) (below-or-last n k h))
 
 -- below the bound each station is fresh, with its own number
 pub seat-at : (count n k : ℕ) (d : Station) → k < n → n ≤ mostStations → getD (seatsTo count n) k d ≡ blank k count

@@ -1,14 +1,14 @@
 -- What is put into a sound table leaves it sound, and what a step of a seated station leaves may be
 -- put there. Assumes nothing.
-use Prim.Native.Nat.{ℕ, zero, suc, _<_}
-use mathlib.Core.Path.{_≡_, refl, _∙_}
+use Prim.Native.Nat.{ℕ, _<_}
+use mathlib.Core.Path.{_≡_, _∙_}
 use mathlib.Core.Bool.{true, or-true}
 use native.Mathlib.Omega.{arith}
 use borrow.Author.Tests.{lt-ltb, eq-eqb}
 use Rattle.station.specs.declared.station.Station.{Station}
 use Rattle.rules.specs.declared.message.Message.{Message}
 use Rattle.station.specs.Sound.{stationSound}
-use Rattle.station.specs.Steps.{messageFor, showing, showAnswer, showOf, receiveOf}
+use Rattle.station.specs.Steps.{showOf, receiveOf}
 use Rattle.station.proofs.Answering.{shown}
 use Rattle.station.proofs.Keeps.{receive-keeps, receive-seat, message-sound}
 use Rattle.pool.specs.declared.places.Waiting.{Waiting}
@@ -17,7 +17,7 @@ use Rattle.pool.specs.declared.places.Place.{Place}
 use Rattle.table.specs.declared.table.Table.{Table}
 use Rattle.table.specs.Table.{stationAt, putStation, putPlace}
 use Rattle.table.specs.Sound.{seatSound, placeSound}
-use Rattle.rules.proofs.Stores.{stored}
+use Rattle.ground.proofs.Stores.{stored}
 use Rattle.table.proofs.Tables.{Seated, Waits, SoundTable, seated}
 
 -- in a sound table a station below the count is seated; and back: a seat, and a place with a
@@ -39,16 +39,11 @@ pub receive-seated : {s : Station} {k n : ℕ} → Seated s k n → (m : Message
 receive-seated {s} w m = let same = receive-seat s m in moved w (receive-keeps s m (w .sound)) (same .0, same .1)
 
 -- a message that is shown is the station's own, and may wait in its table
-pub show-done : (n : ℕ) (m : Message) → showing n m .answer ≡ 0 → (n ≡ 0) × (showing n m .message ≡ m)
-show-done zero m e = (refl, refl)
-show-done (suc n) m e = absurd (omega arith)
-
 pub show-waits : {s : Station} {k n : ℕ} → Seated s k n → (to : ℕ) → k < n → showOf s to .answer ≡ 0 → Waits (showOf s to .message) n
 unfolding showOf
 show-waits {s} w to h e =
-    let one = show-done (showAnswer s to) (messageFor s to) e in
-    let peer = shown s to (one .0) in
-    rw (one .1) (record { sound = message-sound s to (one .0); from = omega (arith, w .number); to = omega (arith, w .count, peer .below) })
+    let peer = shown s to e in
+    rw e (record { sound = message-sound s to e; from = omega (arith, w .number); to = omega (arith, w .count, peer .below) })
 
 -- a sound table stays one where a seated station is put at its number, or at a place what is sound
 -- there

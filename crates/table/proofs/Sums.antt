@@ -1,14 +1,13 @@
 -- Sums over the stations of a table, one station at a time, and their limits. Assumes nothing.
-use Prim.Native.Nat.{ℕ, _+_, _<_, _≤_}
-use mathlib.Core.Path.{_≡_, refl}
+use Prim.Native.Nat.{ℕ, _<_, _≤_}
+use mathlib.Core.Path.{_≡_}
 use mathlib.Core.Bool.{Bool, true, false, cond}
 use native.Mathlib.Omega.{arith}
-use native.Mathlib.Numerals.{add-one}
 use Rattle.rules.specs.declared.held.HeldSlot.{HeldSlot}
 use Rattle.rules.specs.declared.held.HeldSlot.the-variants.{NoSlot, OneSlot}
 use Rattle.rules.specs.declared.held.HeldToken.{HeldToken}
 use Rattle.rules.specs.declared.held.HeldToken.the-variants.{NoToken, OneToken}
-use Rattle.rules.specs.Limits.{mostValue}
+use Rattle.ground.specs.Limits.{mostValue}
 use Rattle.station.specs.Held.{tokenFor}
 use Rattle.rules.specs.Rules.{agree}
 use Rattle.rules.specs.Taking.{tokenFits}
@@ -16,17 +15,8 @@ use Rattle.station.proofs.Parts.{SoundStation, station-parts, token-fits}
 use Rattle.table.specs.declared.table.Table.{Table}
 use Rattle.table.specs.Table.{stationAt}
 use Rattle.table.specs.Sound.{tableSound}
-use Rattle.handshake.specs.Sums.{sumBelow}
 use Rattle.table.specs.Way.{travels, between}
 use Rattle.table.proofs.Tables.{table-parts, seated}
-
-pub sum-none : (f : ℕ → ℕ) → sumBelow f 0 ≡ 0
-unfolding sumBelow
-sum-none f = refl
-
-pub sum-more : (f : ℕ → ℕ) (k : ℕ) → sumBelow f (k + 1) ≡ sumBelow f k + f k
-unfolding sumBelow
-sum-more f k = rw (add-one k)
 
 pub station-sound : (t : Table) → tableSound t ≡ true → (k : ℕ) → k < t .count → SoundStation (stationAt t k)
 station-sound t e k h =

@@ -6,10 +6,11 @@ use lib.Dec.{ltb, leb, eqb}
 use borrow.Author.Tests.{leb-true, ltb-true, eqb-true, lt-leb, le-leb}
 use Rattle.station.specs.declared.station.Station.{Station}
 use Rattle.rules.specs.declared.message.Message.{Message}
-use Rattle.rules.specs.Limits.{mostStations}
-use Rattle.rules.specs.Below.{allBelow}
+use Rattle.ground.specs.Limits.{mostStations}
+use Rattle.ground.specs.Below.{allBelow}
 use Rattle.station.specs.Sound.{stationSound, messageSound}
-use Rattle.rules.proofs.Below.{needed, all-at, all-from}
+use Rattle.ground.proofs.Tests.{needed}
+use Rattle.ground.proofs.Below.{all-at, all-from}
 use Rattle.pool.specs.declared.places.Waiting.the-variants.{One}
 use Rattle.table.specs.declared.table.Table.{Table}
 use Rattle.pool.specs.Pool.{mostPlaces}

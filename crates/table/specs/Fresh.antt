@@ -4,9 +4,9 @@ use mathlib.Core.Bool.{not}
 use mathlib.Core.List.{List, [], _∷_}
 use lib.ListN.{set, replicate}
 use Rattle.station.specs.declared.station.Station.{Station}
-use Rattle.rules.specs.Answers.{notSound}
-use Rattle.rules.specs.Refusals.{Refusal, when, answerOf}
-use Rattle.rules.specs.Limits.{mostStations}
+use Rattle.ground.specs.Answers.{notSound}
+use Rattle.ground.specs.Refusals.{Refusal, when, answerOf}
+use Rattle.ground.specs.Limits.{mostStations}
 use Rattle.rules.specs.Report.{noReport}
 use Rattle.station.specs.Sound.{countSound}
 use Rattle.station.specs.Steps.{blank}

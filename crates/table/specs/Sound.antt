@@ -4,10 +4,10 @@ use Prim.Native.Nat.{ℕ}
 use mathlib.Core.Bool.{Bool, true, not, _&&_, _||_}
 use lib.Dec.{ltb, leb, eqb}
 use Rattle.station.specs.declared.station.Station.{Station}
-use Rattle.rules.specs.Answers.{notSound}
-use Rattle.rules.specs.Limits.{mostStations}
-use Rattle.rules.specs.Refusals.{Refusal, when}
-use Rattle.rules.specs.Below.{allBelow}
+use Rattle.ground.specs.Answers.{notSound}
+use Rattle.ground.specs.Limits.{mostStations}
+use Rattle.ground.specs.Refusals.{Refusal, when}
+use Rattle.ground.specs.Below.{allBelow}
 use Rattle.station.specs.Sound.{countSound, stationSound, messageSound}
 use Rattle.pool.specs.declared.places.Waiting.{Waiting}
 use Rattle.pool.specs.declared.places.Waiting.the-variants.{Empty, One}

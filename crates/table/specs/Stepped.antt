@@ -1,7 +1,8 @@
 -- What a step hands back.
-use Prim.Native.Nat.{ℕ, zero, suc}
+use Prim.Native.Nat.{ℕ}
 use Rattle.rules.specs.declared.report.Report.{Report}
-use Rattle.rules.specs.Answers.{done}
+use Rattle.ground.specs.Answers.{done}
+use Rattle.ground.specs.Choice.{ifDone}
 use Rattle.rules.specs.Report.{noReport}
 use Rattle.table.specs.declared.stepped.Stepped.{Stepped}
 use Rattle.table.specs.declared.table.Table.{Table}
@@ -10,7 +11,10 @@ use Rattle.table.specs.declared.table.Table.{Table}
 abbrev pub did : ℕ → Report → Table → Stepped
 did result report t = record { answer = done; result = result; report = report; table = t }
 
--- answer 0 is the step done; any other is a refusal: result 0, no rule named, nothing changed
+-- every refusal has result 0, names no rule and changes nothing
+abbrev pub refusedStep : ℕ → Table → Stepped
+refusedStep answer t = record { answer = answer; result = 0; report = noReport; table = t }
+
+-- answer 0 is the step done; any other is a refusal
 abbrev pub answeredStep : ℕ → Table → Stepped → Stepped
-answeredStep zero t d = d
-answeredStep (suc n) t d = record { answer = suc n; result = 0; report = noReport; table = t }
+answeredStep answer t d = ifDone answer d (refusedStep answer t)

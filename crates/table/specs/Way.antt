@@ -1,18 +1,18 @@
 -- The passes at the stations of a table, and the passes on the way.
-use Prim.Native.Nat.{ℕ, zero, suc}
+use Prim.Native.Nat.{ℕ}
 use mathlib.Core.Bool.{cond}
 use mathlib.Core.List.{List, [], _∷_}
-use Rattle.handshake.specs.Sums.{sumBelow}
+use Rattle.ground.specs.Sums.{sumBelow}
 use Rattle.rules.specs.declared.held.HeldSlot.{HeldSlot}
 use Rattle.rules.specs.declared.held.HeldSlot.the-variants.{NoSlot, OneSlot}
 use Rattle.rules.specs.declared.held.HeldToken.{HeldToken}
 use Rattle.rules.specs.declared.held.HeldToken.the-variants.{NoToken, OneToken}
-use Rattle.rules.specs.Answers.{done}
-use Rattle.rules.specs.Refusals.{Refusal, answerOf}
+use Rattle.ground.specs.Refusals.{Refusal, answerOf}
+use Rattle.ground.specs.declared.told.Told.{Told}
+use Rattle.ground.specs.Told.{toldWith}
 use Rattle.station.specs.Held.{slotFor, tokenFor}
 use Rattle.rules.specs.Rules.{agree}
 use Rattle.table.specs.declared.table.Table.{Table}
-use Rattle.table.specs.declared.way.Summed.{Summed}
 use Rattle.table.specs.Table.{stationAt}
 use Rattle.table.specs.Sound.{unsound}
 
@@ -39,12 +39,8 @@ atStations t = sumBelow (λ k. stationAt t k .value) (t .count)
 abbrev pub sumRefusals : Table → List Refusal
 sumRefusals t = unsound t ∷ []
 
-abbrev pub summed : ℕ → ℕ → Summed
-summed zero sum = record { answer = done; result = sum }
-summed (suc n) sum = record { answer = suc n; result = 0 }
+abbrev pub wayAsked : Table → Told
+wayAsked t = toldWith (answerOf (sumRefusals t)) (onTheWay t)
 
-abbrev pub wayAsked : Table → Summed
-wayAsked t = summed (answerOf (sumRefusals t)) (onTheWay t)
-
-abbrev pub stationsAsked : Table → Summed
-stationsAsked t = summed (answerOf (sumRefusals t)) (atStations t)
+abbrev pub stationsAsked : Table → Told
+stationsAsked t = toldWith (answerOf (sumRefusals t)) (atStations t)

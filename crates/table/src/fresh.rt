@@ -1,15 +1,15 @@
 // A fresh table.
 ghost use mathlib.Core.Path.{_≡_};
 ghost use Prim.Native.Nat.{_≤_};
-ghost use Rattle.rules.specs.Limits.{mostStations};
+ghost use Rattle.ground.specs.Limits.{mostStations};
 ghost use Rattle.table.specs.Fresh.{blankTable, freshOf, seatsTo};
 use crate::stepped::Stepped;
 use crate::table::Table;
+use ground::answers;
+use ground::limits::MOST_STATIONS;
 use pool::places::MOST_PLACES;
 use pool::places::Place;
 use pool::places::Waiting;
-use rules::answers;
-use rules::limits::MOST_STATIONS;
 use rules::report::no_report;
 use station::sound::count_is_sound;
 use station::station::Station;

@@ -1,16 +1,16 @@
 // The test of a table's soundness, proved equal to its definition.
 ghost use mathlib.Core.Path.{_≡_};
-ghost use Rattle.rules.specs.Limits.{mostStations};
-ghost use Rattle.rules.specs.Below.{allBelow};
+ghost use Rattle.ground.specs.Limits.{mostStations};
+ghost use Rattle.ground.specs.Below.{allBelow};
 ghost use Rattle.pool.specs.Pool.{mostPlaces, placeIn};
 ghost use Rattle.table.specs.Table.{stationIn};
 ghost use Rattle.table.specs.Sound.{seatSound, placeSound, tableSound};
 use crate::table::Table;
+use ground::limits::LEAST_STATIONS;
+use ground::limits::MOST_STATIONS;
 use pool::places::MOST_PLACES;
 use pool::places::Place;
 use pool::places::Waiting;
-use rules::limits::LEAST_STATIONS;
-use rules::limits::MOST_STATIONS;
 use station::sound::message_is_sound;
 use station::sound::station_is_sound;
 use station::station::Station;

@@ -1,7 +1,7 @@
 // A table by value.
+use ground::limits::MOST_STATIONS;
 use pool::places::MOST_PLACES;
 use pool::places::Place;
-use rules::limits::MOST_STATIONS;
 use station::station::Station;
 
 // The count of its stations, an array of stations by number, and the pool. What stands at a number

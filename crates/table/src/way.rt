@@ -2,21 +2,16 @@
 ghost use mathlib.Core.Path.{_≡_};
 ghost use mathlib.Core.Bool.{true};
 ghost use Prim.Native.Nat.{_<_, _≤_, _*_};
-ghost use Rattle.rules.specs.Limits.{mostValue, mostStations};
+ghost use Rattle.ground.specs.Limits.{mostValue, mostStations};
 ghost use Rattle.table.specs.Sound.{tableSound};
 ghost use Rattle.table.specs.Way.{travels, wayFrom, onTheWay, atStations, wayAsked, stationsAsked};
 use crate::sound::table_is_sound;
 use crate::table::Table;
-use rules::answers;
+use ground::answers;
+use ground::told::Told;
 use rules::held::HeldSlot;
 use rules::held::HeldToken;
 use rules::rules::clocks_agree;
-
-// The numbered answer and the sum.
-pub struct Summed {
-    pub answer: u8,
-    pub result: u64,
-}
 
 // What of a token is on the way to a slot.
 fn travels_to(token: HeldToken, slot: HeldSlot) -> u64
@@ -85,32 +80,32 @@ fn values_of_all(t: Table) -> u64
 }
 
 // The sum on the way: refused by 1.
-pub fn on_the_way(t: Table) -> Summed
+pub fn on_the_way(t: Table) -> Told
     ensures { λ r. ⌜ r ≡ wayAsked t ⌝ }
 {
     if !table_is_sound(t) {
-        return Summed {
+        return Told {
             answer: answers::NOT_SOUND,
             result: 0,
         };
     }
-    Summed {
+    Told {
         answer: answers::DONE,
         result: way_of_all(t),
     }
 }
 
 // The passes at all stations: refused by 1.
-pub fn at_stations(t: Table) -> Summed
+pub fn at_stations(t: Table) -> Told
     ensures { λ r. ⌜ r ≡ stationsAsked t ⌝ }
 {
     if !table_is_sound(t) {
-        return Summed {
+        return Told {
             answer: answers::NOT_SOUND,
             result: 0,
         };
     }
-    Summed {
+    Told {
         answer: answers::DONE,
         result: values_of_all(t),
     }

@@ -1,10 +1,10 @@
 // Input at the edges, through the compiled entry points. Each line is the words, the answer and the
 // result.
+use ground::clocks::DestinationClock;
+use ground::clocks::SourceClock;
 use libc::STDOUT_FILENO;
 use pool::places::Place;
 use pool::places::Waiting;
-use rules::clocks::DestinationClock;
-use rules::clocks::SourceClock;
 use rules::held::HeldSlot;
 use rules::held::HeldToken;
 use rules::held::Slot;

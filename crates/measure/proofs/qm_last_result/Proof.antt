@@ -1,4 +1,4 @@
-use Prim.Native.Nat.{_+_, _*_, _-_, _/_, _<_, _≤_}
+use Prim.Native.Nat.{_*_, _-_, _/_, _≤_}
 use mathlib.Core.Path.{_≡_, refl, _∙_, ap}
 use mathlib.Core.Logic.{⊎-elim}
 use native.Mathlib.Omega.{arith}

@@ -26,8 +26,8 @@ use Rattle.pool.specs.Lent.{cleared, loseInAnswer}
 use Rattle.pool.specs.declared.places.Place.{Place}
 use Rattle.pool.proofs.LentAnswers.{is-64, lose-1, lose-7, lose-8, lose-0}
 use Rattle.pool.proofs.LentPool.{R, vals, at, bytes, offset-fits, rising, Pool, Walk, met, over, losing, telling, var, address, lets, unless, replies, cell, room, reads, writes, bring, calls, tests, lent, After, begins, refused, served}
-use Rattle.pool.proofs.lent.Told as T
-use Rattle.pool.proofs.lent.Told.Laws as T′
+use Rattle.ground.proofs.told.Told as T
+use Rattle.ground.proofs.told.Told.Laws as T′
 use Rattle.pool.proofs.places.Place as P
 use Rattle.pool.proofs.places.Place.Laws as P′
 use Rattle.pool.proofs.lent.cleared as blank

@@ -29,14 +29,15 @@ use denote.Struct.Laws as LL
 use Rattle.rules.specs.declared.message.Message.{Message}
 use Rattle.rules.proofs.message.Message as X
 use Rattle.rules.proofs.message.Message.Laws as X′
-use Rattle.pool.specs.Pool.{placeIn, isEmpty, firstFrom, lowestEmpty}
+use Rattle.pool.specs.Pool.{placeIn, isEmpty, lowestEmpty}
+use Rattle.ground.specs.First.{firstFrom}
 use Rattle.pool.specs.Lent.{holding, sendInAnswer}
 use Rattle.pool.specs.declared.places.Place.{Place}
 use Rattle.pool.proofs.LentAnswers.{is-true, is-false, is-64, send-1, send-6, send-0}
-use Rattle.pool.proofs.First.{first-none, first-here, first-later}
+use Rattle.ground.proofs.First.{first-none, first-here, first-later}
 use Rattle.pool.proofs.LentPool.{R, vals, at, bytes, offset-fits, rising, placed, standing, Pool, Walk, met, over, sending, telling, var, address, lets, unless, replies, cell, room, reads, writes, bring, calls, tests, lent, After, begins, refused, served}
-use Rattle.pool.proofs.lent.Told as T
-use Rattle.pool.proofs.lent.Told.Laws as T′
+use Rattle.ground.proofs.told.Told as T
+use Rattle.ground.proofs.told.Told.Laws as T′
 use Rattle.pool.proofs.places.Place as P
 use Rattle.pool.proofs.places.Place.Laws as P′
 use Rattle.pool.proofs.lent.holding as held

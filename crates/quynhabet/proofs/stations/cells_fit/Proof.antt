@@ -1,8 +1,8 @@
 use Prim.Native.Nat.{_≤_, _-_}
 use mathlib.Core.Path.{_≡_, ap, sym, _∙_}
 use native.Mathlib.Omega.{arith}
-use Rattle.rules.specs.Below.{allBelow}
-use Rattle.rules.proofs.Below.{all-none, all-more}
+use Rattle.ground.specs.Below.{allBelow}
+use Rattle.ground.proofs.Below.{all-none, all-more}
 use Rattle.quynhabet.specs.Layout.{cellsFit}
 use borrow.Author.Needs.{needs}
 use Rattle.quynhabet.proofs.stations.cells_fit.Statement.{statement}

@@ -5,9 +5,11 @@ use native.Mathlib.Omega.{arith}
 use lib.ListN.{replicate}
 use lib.Seq.{sets}
 use Rattle.station.specs.Held.{noSlot, noToken}
-use Rattle.quynhabet.specs.Layout.{inTurn, slotCell, tokenCell, slotsOf, tokensOf}
+use Rattle.ground.specs.InTurn.{inTurn}
+use Rattle.quynhabet.specs.Layout.{slotCell, tokenCell, slotsOf, tokensOf}
 use Rattle.quynhabet.proofs.Fitting.{cell-fits}
-use Rattle.quynhabet.proofs.InTurn.{turn-none, turn-one, whole, length-ones}
+use Rattle.ground.proofs.InTurn.{turn-none, turn-one, length-ones}
+use Rattle.ground.proofs.Stores.{whole}
 use borrow.Author.Needs.{needs}
 use Rattle.quynhabet.proofs.stations.cells_of.Statement.{statement}
 use Rattle.quynhabet.proofs.stations.cells_of.Tie as tie

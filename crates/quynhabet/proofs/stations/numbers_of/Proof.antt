@@ -4,7 +4,7 @@ use mathlib.Core.List.{List, _++_}
 use native.Mathlib.Nat.{zero-add}
 use lib.ListN.{replicate}
 use Rattle.quynhabet.specs.Layout.{firstNumbers, slotsNumbers, tokensNumbers, numbersOf}
-use Rattle.quynhabet.proofs.InTurn.{then, whole}
+use Rattle.ground.proofs.Stores.{then, whole}
 use Rattle.quynhabet.proofs.Lengths.{length-front, length-numbers}
 use borrow.Author.Needs.{needs}
 use Rattle.quynhabet.proofs.stations.numbers_of.Statement.{statement}

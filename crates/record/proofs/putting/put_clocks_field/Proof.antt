@@ -3,7 +3,7 @@ use mathlib.Core.List.{_++_, append-nil}
 use lib.ListN.{length-append}
 use borrow.Author.Needs.{needs}
 use Rattle.record.specs.Numbers.{big}
-use Rattle.rules.proofs.Stores.{then}
+use Rattle.ground.proofs.Stores.{then}
 use Rattle.record.proofs.Digits.{length-big}
 use Rattle.record.proofs.putting.put_clocks_field.Statement.{statement}
 use Rattle.record.proofs.putting.put_clocks_field.Tie as tie

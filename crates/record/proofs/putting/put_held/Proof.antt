@@ -4,7 +4,7 @@ use native.Mathlib.Omega.{arith}
 use lib.ListN.{length-append}
 use borrow.Author.Needs.{needs}
 use Rattle.record.specs.Numbers.{big}
-use Rattle.rules.proofs.Stores.{then}
+use Rattle.ground.proofs.Stores.{then}
 use Rattle.record.proofs.Digits.{length-big}
 use Rattle.record.proofs.putting.put_held.Statement.{statement}
 use Rattle.record.proofs.putting.put_held.Tie as tie

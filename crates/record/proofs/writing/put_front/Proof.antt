@@ -2,7 +2,7 @@ use mathlib.Core.List.{[], _∷_, _++_}
 use lib.ListN.{length-append}
 use borrow.Author.Needs.{needs}
 use Rattle.record.specs.Fields.{tagged}
-use Rattle.rules.proofs.Stores.{then}
+use Rattle.ground.proofs.Stores.{then}
 use Rattle.record.proofs.Digits.{length-big}
 use Rattle.record.proofs.writing.put_front.Statement.{statement}
 use Rattle.record.proofs.writing.put_front.Tie as tie

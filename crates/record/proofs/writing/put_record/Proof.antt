@@ -4,7 +4,7 @@ use native.Mathlib.Omega.{arith}
 use lib.ListN.{length-append}
 use borrow.Author.Needs.{needs}
 use Rattle.record.specs.Writing.{front, slotBytes, tokenBytes}
-use Rattle.rules.proofs.Stores.{then}
+use Rattle.ground.proofs.Stores.{then}
 use Rattle.record.proofs.Digits.{length-big}
 use Rattle.record.proofs.Lengths.{parts, length-record}
 use Rattle.record.proofs.writing.put_record.Statement.{statement}

@@ -5,7 +5,7 @@ use lib.ListN.{length}
 use borrow.Author.Tests.{not-true, not-false, lt-ltb, le-ltb}
 use borrow.Author.Needs.{needs}
 use Rattle.record.specs.Dateless.{recordOf}
-use Rattle.rules.proofs.Stores.{in-front}
+use Rattle.ground.proofs.Stores.{in-front}
 use Rattle.record.proofs.writing.write.Statement.{statement}
 use Rattle.record.proofs.writing.write.Tie as tie
 

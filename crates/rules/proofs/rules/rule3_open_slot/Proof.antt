@@ -1,8 +1,6 @@
-use mathlib.Core.Path.{sym, _∙_}
-use lib.Dec.{leb}
-use borrow.Author.Tests.{not-true, not-false, ltb-true}
+use mathlib.Core.Path.{_∙_}
+use borrow.Author.Tests.{not-true, not-false}
 use Rattle.rules.proofs.Ruling.{open-one-slot, open-other, open-acts}
-use Rattle.rules.proofs.Below.{both-hold}
 use borrow.Author.Needs.{needs}
 use Rattle.rules.proofs.rules.rule3_open_slot.Statement.{statement}
 use Rattle.rules.proofs.rules.rule3_open_slot.Tie as tie
@@ -35,10 +33,7 @@ returns-2 c =
     (rw (← c .before .before .before-end .ensures) (not-true _ (c .before .if1 .taken)))
 
 next-requires : tie.Need-next-requires
-next-requires c κs =
-    ltb-true _ _
-    (sym (c .before .before .before .before-end .ensures)
-    ∙ both-hold (leb 1 (c .before .before .before .before .before .before .before .args .h)) _ (not-false _ (c .before .before .if1 .left)) .1)
+next-requires c κs = search needs
 
 acts-with-requires : tie.Need-acts-with-requires
 acts-with-requires c κs = search needs

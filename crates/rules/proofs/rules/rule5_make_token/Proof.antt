@@ -1,7 +1,7 @@
-use mathlib.Core.Path.{sym, _∙_}
-use borrow.Author.Tests.{not-true, not-false, ltb-true}
-use Rattle.rules.proofs.Ruling.{make-no-slot, make-other, make-acts, both-tests}
-use Rattle.rules.proofs.Below.{both-hold}
+use mathlib.Core.Path.{_∙_}
+use borrow.Author.Tests.{not-true, not-false}
+use Rattle.rules.proofs.Ruling.{make-no-slot, make-other, make-acts}
+use Rattle.ground.proofs.Tests.{both-tests}
 use borrow.Author.Needs.{needs}
 use Rattle.rules.proofs.rules.rule5_make_token.Statement.{statement}
 use Rattle.rules.proofs.rules.rule5_make_token.Tie as tie
@@ -36,7 +36,7 @@ smaller-requires : tie.Need-smaller-requires
 smaller-requires c κs = search needs
 
 next-requires : tie.Need-next-requires
-next-requires c κs = ltb-true _ _ (sym (c .before .before .before .before .before-end .ensures) ∙ both-hold (c .before .before .before .before .before .equals .result) _ (not-false _ (c .before .before .before .if1 .left)) .1)
+next-requires c κs = search needs
 
 sub-t18 : tie.Need-sub-t18
 sub-t18 c = search needs

@@ -1,7 +1,8 @@
 use mathlib.Core.Path.{sym, _∙_}
 use native.Mathlib.Omega.{arith}
 use Rattle.rules.specs.Stock.{addToAnswer, addDone, addedTo}
-use Rattle.rules.proofs.Refusing.{stock-done, stock-refused, Added, added}
+use Rattle.ground.proofs.Choices.{when-done, when-refused}
+use Rattle.rules.proofs.Refusing.{Added, added}
 use borrow.Author.Needs.{needs}
 use Rattle.rules.proofs.stock.add_to.Statement.{statement}
 use Rattle.rules.proofs.stock.add_to.Tie as tie
@@ -18,7 +19,7 @@ returns c =
     let a = c .before .before .before .args in
     let n = c .before .before .add-to-answer in
     c .refuse .ensures
-    ∙ rw (n .ensures) (stock-refused (addToAnswer (a .value) (a .intake) (a .amount)) (a .value) (a .intake) (addDone (a .value) (a .intake) (a .amount))
+    ∙ rw (n .ensures) (when-refused (addToAnswer (a .value) (a .intake) (a .amount)) (addDone (a .value) (a .intake) (a .amount)) _
     (λ e. c .before .if1 .taken (n .ensures ∙ e)))
 
 room : (c : tie.Else1) → let a = c .before .before .args in Added (a .value) (a .intake) (a .amount)
@@ -34,7 +35,7 @@ returns-2 : tie.Need-returns-2
 unfolding addedTo
 returns-2 c =
     let a = c .before .before .args in
-    rw (c .if1 .left) (stock-done (a .value) (a .intake) (addDone (a .value) (a .intake) (a .amount)) (sym (c .before .add-to-answer .ensures) ∙ c .if1 .left))
+    rw (c .if1 .left) (when-done (addDone (a .value) (a .intake) (a .amount)) _ (sym (c .before .add-to-answer .ensures) ∙ c .if1 .left))
 
 pub add-to-spec : {M : Type 1} → statement M
 add-to-spec = tie.close (tie.spec add-to-answer-requires refuse-requires returns add-more add-t7 returns-2)

@@ -2,8 +2,8 @@ use mathlib.Core.Path.{sym, _∙_}
 use native.Mathlib.Omega.{arith}
 use lib.Dec.{leb}
 use borrow.Author.Tests.{not-true, not-false, leb-true, lt-ltb, le-ltb}
-use Rattle.rules.specs.Limits.{mostIntake, mostValue}
-use Rattle.rules.proofs.Below.{both-hold}
+use Rattle.ground.specs.Limits.{mostIntake, mostValue}
+use Rattle.ground.proofs.Tests.{both-hold}
 use Rattle.rules.proofs.Refusing.{amount-small}
 use borrow.Author.Needs.{needs}
 use Rattle.rules.proofs.stock.add_to_answer.Statement.{statement}

@@ -3,9 +3,9 @@ use mathlib.Core.Bool.{true, false}
 use lib.Dec.{leb, ltb}
 use borrow.Author.Tests.{not-true, not-false, lt-ltb, le-ltb}
 use Rattle.rules.specs.declared.rules.Ruled.{Ruled}
-use Rattle.rules.specs.Limits.{mostValue}
+use Rattle.ground.specs.Limits.{mostValue}
 use Rattle.rules.specs.Taking.{messageSmall}
-use Rattle.rules.proofs.Below.{both-hold}
+use Rattle.ground.proofs.Tests.{both-hold}
 use Rattle.rules.proofs.Refusing.{small-fits}
 use borrow.Author.Needs.{needs}
 use Rattle.rules.proofs.taking.take_answer.Statement.{statement}

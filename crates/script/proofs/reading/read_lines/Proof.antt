@@ -5,7 +5,8 @@ use mathlib.Core.Path.{ap, _∙_}
 use denote.Ref.{now}
 use lib.ListN.{length}
 use Rattle.script.specs.Lines.{lineOf}
-use Rattle.script.proofs.Readings.{all-read, both-below, line-read, none-read, Reading}
+use Rattle.script.proofs.Readings.{all-read, line-read, none-read, Reading}
+use Rattle.ground.proofs.Tests.{both-below}
 use Rattle.script.proofs.reading.read_lines.Statement.{statement}
 use Rattle.script.proofs.reading.read_lines.Tie as tie
 

@@ -1,7 +1,9 @@
 use mathlib.Core.Path.{sym, _∙_}
 use native.Mathlib.Omega.{arith}
 use Rattle.station.specs.Steps.{showOf, messageFor, showAnswer}
-use Rattle.station.proofs.Answering.{shown-done, shown-refused, shown}
+use Rattle.ground.proofs.Choices.{when-refused}
+use Rattle.rules.specs.Message.{noMessage}
+use Rattle.station.proofs.Answering.{shown}
 use Rattle.station.proofs.Parts.{station-parts}
 use borrow.Author.Needs.{needs}
 use Rattle.station.proofs.message.message_for.Statement.{statement}
@@ -18,7 +20,11 @@ unfolding showOf
 returns c =
     let a = c .before .before .before .args in
     let n = c .before .before .show-answer in
-    rw (c .no-message .ensures, n .ensures) (shown-refused (showAnswer (a .s) (a .to)) (messageFor (a .s) (a .to)) (λ e. c .before .if1 .taken (n .ensures ∙ e)))
+    rw (
+      c .no-message .ensures,
+      n .ensures,
+      ← when-refused (showAnswer (a .s) (a .to)) (messageFor (a .s) (a .to)) noMessage (λ e. c .before .if1 .taken (n .ensures ∙ e)),
+    )
 
 side-for-requires : tie.Need-side-for-requires
 side-for-requires c κs =
@@ -31,7 +37,8 @@ returns-2 : tie.Need-returns-2
 unfolding showOf
 returns-2 c =
     let a = c .before .before .before .before .before .args in
-    rw (c .before .before .before .if1 .left, c .before .before .side-for .ensures) (shown-done (messageFor (a .s) (a .to)) (sym (c .before .before .before .before .show-answer .ensures) ∙ c .before .before .before .if1 .left))
+    let z = sym (c .before .before .before .before .show-answer .ensures) ∙ c .before .before .before .if1 .left in
+    rw (c .before .before .before .if1 .left, c .before .before .side-for .ensures, z)
 
 pub message-for-spec : {M : Type 1} → statement M
 message-for-spec =

@@ -2,9 +2,9 @@ use mathlib.Core.Path.{_≡_, ap, sym, _∙_}
 use native.Mathlib.Omega.{arith}
 use borrow.Author.Needs.{needs}
 use Prim.Native.Nat.{_≤_, _-_}
-use Rattle.rules.specs.Below.{allBelow}
+use Rattle.ground.specs.Below.{allBelow}
 use Rattle.station.specs.Sound.{cellsSound}
-use Rattle.rules.proofs.Below.{all-none, all-more}
+use Rattle.ground.proofs.Below.{all-none, all-more}
 use Rattle.station.proofs.sound.cells_are_sound.Statement.{statement}
 use Rattle.station.proofs.sound.cells_are_sound.Tie as tie
 

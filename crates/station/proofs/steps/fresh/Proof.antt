@@ -1,7 +1,7 @@
 use mathlib.Core.Path.{sym, _∙_}
 use Rattle.rules.specs.Report.{noReport}
 use Rattle.station.specs.Steps.{freshOf, freshAnswer, blank, told}
-use Rattle.station.proofs.Answering.{when-done, when-refused}
+use Rattle.ground.proofs.Choices.{when-done, when-refused}
 use borrow.Author.Needs.{needs}
 use Rattle.station.proofs.steps.fresh.Statement.{statement}
 use Rattle.station.proofs.steps.fresh.Tie as tie
@@ -22,7 +22,7 @@ returns c =
     let n = c .before .before .before .fresh-answer in
     c .refuse .ensures
     ∙ rw (c .before .blank-station .ensures, n .ensures)
-    (when-refused (freshAnswer (a .number) (a .count)) (blank 0 0) (told 0 noReport (blank (a .number) (a .count))) (λ e. c .before .before .if1 .taken (n .ensures ∙ e)))
+    (when-refused (freshAnswer (a .number) (a .count)) (told 0 noReport (blank (a .number) (a .count))) _ (λ e. c .before .before .if1 .taken (n .ensures ∙ e)))
 
 no-report-requires : tie.Need-no-report-requires
 no-report-requires c κs = search needs
@@ -35,7 +35,7 @@ unfolding freshOf
 returns-2 c =
     let a = c .before .before .before .before .args in
     rw (c .before .before .if1 .left, c .before .no-report .ensures, c .blank-station2 .ensures)
-    (when-done (blank 0 0) (told 0 noReport (blank (a .number) (a .count))) (sym (c .before .before .before .fresh-answer .ensures) ∙ c .before .before .if1 .left))
+    (when-done (told 0 noReport (blank (a .number) (a .count))) _ (sym (c .before .before .before .fresh-answer .ensures) ∙ c .before .before .if1 .left))
 
 pub fresh-spec : {M : Type 1} → statement M
 fresh-spec =

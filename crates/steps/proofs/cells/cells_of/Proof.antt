@@ -7,7 +7,7 @@ use lib.ListN.{length, getD, length-set}
 use lib.Seq.{ext-getD}
 use Rattle.table.specs.Table.{stationIn}
 use Rattle.steps.specs.Cells.{cellsFor, cellsOf}
-use Rattle.steps.proofs.Flags.{one-more}
+use Rattle.ground.proofs.Stores.{one-more}
 use Rattle.steps.proofs.Held.{noCells, cells-length, cell-there}
 use Rattle.steps.proofs.cells.cells_of.Statement.{statement}
 use Rattle.steps.proofs.cells.cells_of.Tie as tie

@@ -1,7 +1,7 @@
 use mathlib.Core.Path.{_∙_}
 use borrow.Author.Tests.{lt-ltb, le-ltb}
-use Rattle.steps.specs.Planning.{stockDone}
-use Rattle.steps.proofs.Plans.{plan-done, plan-refused}
+use Rattle.steps.specs.Planning.{refusedPlan, stockDone}
+use Rattle.ground.proofs.Choices.{when-done, when-refused}
 use borrow.Author.Needs.{needs}
 use Rattle.steps.proofs.planning.plan_stock.Statement.{statement}
 use Rattle.steps.proofs.planning.plan_stock.Tie as tie
@@ -16,13 +16,13 @@ refuse-requires-2 : tie.Need-refuse-requires-2
 refuse-requires-2 c κs = search needs
 
 returns-2 : tie.Need-returns-2
-returns-2 c = let r = c .before .before .before .before .args .r in rw (lt-ltb _ _ (c .before .before .before .if1 .left)) (c .refuse2 .ensures ∙ plan-refused (r .answer) (stockDone r) (c .before .if2 .taken))
+returns-2 c = let r = c .before .before .before .before .args .r in rw (lt-ltb _ _ (c .before .before .before .if1 .left)) (c .refuse2 .ensures ∙ when-refused (r .answer) (stockDone r) (refusedPlan (r .answer)) (c .before .if2 .taken))
 
 no-report-requires : tie.Need-no-report-requires
 no-report-requires c κs = search needs
 
 returns-3 : tie.Need-returns-3
-returns-3 c = let r = c .before .before .before .before .args .r in rw (lt-ltb _ _ (c .before .before .before .if1 .left), c .no-report .ensures) (plan-done (stockDone r) (c .before .if2 .left))
+returns-3 c = let r = c .before .before .before .before .args .r in rw (lt-ltb _ _ (c .before .before .before .if1 .left), c .no-report .ensures) (when-done (stockDone r) _ (c .before .if2 .left))
 
 pub plan-stock-spec : {M : Type 1} → statement M
 plan-stock-spec =

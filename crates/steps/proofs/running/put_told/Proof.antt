@@ -1,7 +1,7 @@
 use denote.Ref.{now}
 use native.Mathlib.Omega.{arith}
 use lib.ListN.{length-set}
-use Rattle.steps.proofs.Fives.{five}
+use Rattle.ground.proofs.Stores.{five}
 use borrow.Author.Needs.{needs}
 use Rattle.steps.proofs.running.put_told.Statement.{statement}
 use Rattle.steps.proofs.running.put_told.Tie as tie

@@ -5,7 +5,8 @@ use borrow.Author.Needs.{needs}
 use lib.ListN.{length, getD, length-set}
 use lib.Seq.{ext-getD}
 use Rattle.steps.specs.Looking.{flagsOf}
-use Rattle.steps.proofs.Flags.{flag-at, one-more, length-flags}
+use Rattle.steps.proofs.Flags.{flag-at, length-flags}
+use Rattle.ground.proofs.Stores.{one-more}
 use Rattle.steps.proofs.taken.flags_of.Statement.{statement}
 use Rattle.steps.proofs.taken.flags_of.Tie as tie
 

@@ -8,9 +8,9 @@ use borrow.Author.Tests.{eq-eqb, ne-eqb}
 use denote.Ref.{now}
 use lib.Dec.{eqb}
 use lib.ListN.{getD}
-use Rattle.pool.specs.Pool.{firstFrom}
+use Rattle.ground.specs.First.{firstFrom}
 use Rattle.steps.specs.Looking.{lowestZero}
-use Rattle.pool.proofs.First.{first-none, first-here, first-later}
+use Rattle.ground.proofs.First.{first-none, first-here, first-later}
 use Rattle.steps.proofs.taken.lowest_empty.Statement.{statement}
 use Rattle.steps.proofs.taken.lowest_empty.Tie as tie
 

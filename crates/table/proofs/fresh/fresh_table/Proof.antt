@@ -1,7 +1,7 @@
 use mathlib.Core.Path.{sym, _∙_}
 use lib.Dec.{leb}
 use borrow.Author.Tests.{not-true, not-false, leb-true}
-use Rattle.rules.proofs.Below.{both-hold}
+use Rattle.ground.proofs.Tests.{both-hold}
 use Rattle.table.specs.Fresh.{freshOf}
 use borrow.Author.Needs.{needs}
 use Rattle.table.proofs.fresh.fresh_table.Statement.{statement}

@@ -3,10 +3,10 @@ use native.Mathlib.Omega.{arith}
 use borrow.Author.Needs.{needs}
 use Prim.Native.Nat.{ℕ, _≤_, _-_}
 use mathlib.Core.Bool.{Bool}
-use Rattle.rules.specs.Below.{allBelow}
+use Rattle.ground.specs.Below.{allBelow}
 use mathlib.Core.List.{List}
 use Rattle.station.specs.declared.station.Station.{Station}
-use Rattle.rules.proofs.Below.{all-none, all-more}
+use Rattle.ground.proofs.Below.{all-none, all-more}
 use Rattle.table.specs.Table.{stationIn}
 use Rattle.table.specs.Sound.{seatSound}
 use Rattle.table.proofs.sound.seats_are_sound.Statement.{statement}

@@ -2,12 +2,13 @@ use mathlib.Core.Path.{_≡_, ap, sym, _∙_}
 use native.Mathlib.Omega.{arith}
 use borrow.Author.Needs.{needs}
 use Prim.Native.Nat.{ℕ, _≤_, _-_, _*_}
-use Rattle.rules.specs.Limits.{mostValue}
+use Rattle.ground.specs.Limits.{mostValue}
 use Rattle.table.specs.declared.table.Table.{Table}
 use Rattle.table.specs.Table.{stationAt}
-use Rattle.handshake.specs.Sums.{sumBelow}
+use Rattle.ground.specs.Sums.{sumBelow}
 use Rattle.table.proofs.Tables.{table-parts}
-use Rattle.table.proofs.Sums.{sum-none, sum-more, station-sound}
+use Rattle.ground.proofs.Sums.{sum-none, sum-more}
+use Rattle.table.proofs.Sums.{station-sound}
 use Rattle.table.proofs.way.values_of_all.Statement.{statement}
 use Rattle.table.proofs.way.values_of_all.Tie as tie
 

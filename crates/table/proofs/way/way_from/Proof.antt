@@ -2,11 +2,12 @@ use mathlib.Core.Path.{_≡_, ap, sym, _∙_}
 use native.Mathlib.Omega.{arith}
 use borrow.Author.Needs.{needs}
 use Prim.Native.Nat.{_≤_, _-_, _*_}
-use Rattle.rules.specs.Limits.{mostValue}
-use Rattle.handshake.specs.Sums.{sumBelow}
+use Rattle.ground.specs.Limits.{mostValue}
+use Rattle.ground.specs.Sums.{sumBelow}
 use Rattle.table.proofs.Tables.{table-parts}
 use Rattle.table.specs.Way.{between}
-use Rattle.table.proofs.Sums.{sum-none, sum-more, between-small}
+use Rattle.ground.proofs.Sums.{sum-none, sum-more}
+use Rattle.table.proofs.Sums.{between-small}
 use Rattle.table.proofs.way.way_from.Statement.{statement}
 use Rattle.table.proofs.way.way_from.Tie as tie
 

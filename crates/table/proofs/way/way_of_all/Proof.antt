@@ -2,11 +2,11 @@ use mathlib.Core.Path.{_≡_, ap, sym, _∙_}
 use native.Mathlib.Omega.{arith}
 use borrow.Author.Needs.{needs}
 use Prim.Native.Nat.{_≤_, _-_, _*_}
-use Rattle.rules.specs.Limits.{mostStations, mostValue}
-use Rattle.handshake.specs.Sums.{sumBelow}
+use Rattle.ground.specs.Limits.{mostStations, mostValue}
+use Rattle.ground.specs.Sums.{sumBelow}
 use Rattle.table.specs.Way.{wayFrom}
 use Rattle.table.proofs.Tables.{table-parts}
-use Rattle.table.proofs.Sums.{sum-none, sum-more}
+use Rattle.ground.proofs.Sums.{sum-none, sum-more}
 use Rattle.table.proofs.way.way_of_all.Statement.{statement}
 use Rattle.table.proofs.way.way_of_all.Tie as tie
 

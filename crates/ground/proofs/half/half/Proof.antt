@@ -1,8 +1,8 @@
 use borrow.Author.Needs.{needs}
-use Rattle.rules.proofs.Signed.{half-of-negative, Halved, half-of-rest}
+use Rattle.ground.proofs.Halves.{half-of-negative, Halved, half-of-rest}
 use mir.Facts.{toZ-ofZ}
-use Rattle.rules.proofs.half.half.Statement.{statement}
-use Rattle.rules.proofs.half.half.Tie as tie
+use Rattle.ground.proofs.half.half.Statement.{statement}
+use Rattle.ground.proofs.half.half.Tie as tie
 
 halved : (c : tie.Else1) → Halved (c .before .args .d)
 halved c = half-of-rest (c .before .args .d) (c .before .fits .d) (rw (toZ-ofZ (c .before .fits .d)) at (c .if1 .left))

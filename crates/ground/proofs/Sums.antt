@@ -1,9 +1,19 @@
--- Sums that agree, that differ at one place, and their bounds. Assumes nothing.
+-- Sums one term at a time, sums that agree, that differ at one place, and their bounds. Assumes
+-- nothing.
 use Prim.Native.Nat.{ℕ, zero, suc, _+_, _*_, _≤_, _<_}
 use mathlib.Core.Path.{_≡_, refl, ap}
 use native.Mathlib.Omega.{arith}
 use native.Mathlib.Decide.{ℕ-discrete}
-use Rattle.handshake.specs.Sums.{sumBelow, sumPairs}
+use native.Mathlib.Numerals.{add-one}
+use Rattle.ground.specs.Sums.{sumBelow, sumPairs}
+
+pub sum-none : (f : ℕ → ℕ) → sumBelow f 0 ≡ 0
+unfolding sumBelow
+sum-none f = refl
+
+pub sum-more : (f : ℕ → ℕ) (k : ℕ) → sumBelow f (k + 1) ≡ sumBelow f k + f k
+unfolding sumBelow
+sum-more f k = rw (add-one k)
 
 pub sum-same : (f g : ℕ → ℕ) (n : ℕ) → ((a : ℕ) → a < n → f a ≡ g a) → sumBelow f n ≡ sumBelow g n
 unfolding sumBelow

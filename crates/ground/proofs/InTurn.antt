@@ -1,28 +1,15 @@
 -- Lists made in turn, and stored in turn into a longer one. Assumes nothing.
 use Prim.Native.Nat.{ℕ, zero, suc, _+_, _*_, _<_, _≤_}
-use mathlib.Core.Path.{_≡_, refl, ap, subst, sym, _∙_}
-use mathlib.Core.Bool.{Bool, true, false}
-use mathlib.Core.Logic.{_⊎_, inl, inr, ⊎-elim}
-use mathlib.Core.List.{List, [], _∷_, _++_, append-nil}
+use mathlib.Core.Path.{_≡_, refl, subst, sym, _∙_}
+use mathlib.Core.Logic.{⊎-elim}
+use mathlib.Core.List.{List, [], _∷_, _++_}
 use native.Mathlib.Omega.{arith}
 use native.Mathlib.Numerals.{add-one}
-use lib.Dec.{ltb}
-use lib.ListN.{length, getD, set, length-append, drop-of-length-le, List·getD-append}
-use lib.Seq.{sets, sets-eq, ext-getD, getD-append-add}
-use borrow.Author.Tests.{ltb-true, ltb-false}
-use Rattle.quynhabet.specs.Layout.{inTurn}
-
--- what is stored behind other elements is stored with them
-joined : {A : Type 0} (b : List A) (at next : ℕ) (xs ys : List A) → at + length xs ≡ next → sets (sets b at xs) next ys ≡ sets b at (xs ++ ys)
-joined b at next [] ys e = ap (λ (n : ℕ). sets b n ys) (omega arith)
-joined b at next (x ∷ xs) ys e = joined (set b at x) (suc at) next xs ys (omega arith)
-
-pub then : {A : Type 0} (b : List A) (at next : ℕ) (xs ys a a′ : List A) → a ≡ sets b at xs → a′ ≡ sets a next ys → at + length xs ≡ next → a′ ≡ sets b at (xs ++ ys)
-then b at next xs ys a a′ e e′ h = rw (e′, e) (joined b at next xs ys h)
-
--- what is stored over a whole list is all of it
-pub whole : {A : Type 0} (b xs : List A) → length xs ≡ length b → sets b 0 xs ≡ xs
-whole b xs e = sets-eq xs b 0 (omega arith) ∙ rw (drop-of-length-le b {i = 0 + length xs} (omega arith)) (append-nil xs)
+use lib.ListN.{length, getD, set, length-append, List·getD-append}
+use lib.Seq.{sets, ext-getD, getD-append-add}
+use Rattle.ground.proofs.Tests.{below-or-last}
+use Rattle.ground.proofs.Stores.{then}
+use Rattle.ground.specs.InTurn.{inTurn}
 
 pub turn-none : {A : Type 0} (f : ℕ → List A) (b : List A) (at : ℕ) → b ≡ sets b at (inTurn f 0)
 unfolding inTurn
@@ -58,17 +45,13 @@ pub turn-four : {A : Type 0} (f : ℕ → List A) → ((k : ℕ) → length (f k
 turn-four f four b at k a a′ e e′ = turn f b at (at + 4 * k) k a a′ e e′ (rw (length-fours f four k))
 
 -- what stands at a number's place
-below-or-last : (n k : ℕ) (t : Bool) → ltb k n ≡ t → k < suc n → (k < n) ⊎ (n ≡ k)
-below-or-last n k true e h = inl (ltb-true k n e)
-below-or-last n k false e h = let l = ltb-false k n e in inr (omega arith)
-
 turn-room : {A : Type 0} (f : ℕ → List A) (n k : ℕ) → k < n → length (inTurn f k) + length (f k) ≤ length (inTurn f n)
 unfolding inTurn
 turn-room f zero k h = absurd (omega arith)
 turn-room f (suc n) k h =
     ⊎-elim (λ l. let r = turn-room f n k l in rw length-append (omega arith))
     (λ (e : n ≡ k). subst (λ (i : ℕ). length (inTurn f i) + length (f i) ≤ length (inTurn f n ++ f n)) e (rw length-append (omega arith)))
-    (below-or-last n k (ltb k n) refl h)
+    (below-or-last n k h)
 
 at-turn : {A : Type 0} (f : ℕ → List A) (n k j : ℕ) (d : A) → k < n → j < length (f k) → getD (inTurn f n) (length (inTurn f k) + j) d ≡ getD (f k) j d
 unfolding inTurn
@@ -76,7 +59,7 @@ at-turn f zero k j d h g = absurd (omega arith)
 at-turn f (suc n) k j d h g =
     ⊎-elim (λ (l : k < n). let r = turn-room f n k l in List·getD-append (inTurn f n) (f n) d (length (inTurn f k) + j) (omega arith) ∙ at-turn f n k j d l g)
     (λ (e : n ≡ k). subst (λ (i : ℕ). getD (inTurn f n ++ f n) (length (inTurn f i) + j) d ≡ getD (f i) j d) e (getD-append-add (inTurn f n) (f n) j d))
-    (below-or-last n k (ltb k n) refl h)
+    (below-or-last n k h)
 
 pub at-ones : {A : Type 0} (f : ℕ → A) (n k : ℕ) (d : A) → k < n → getD (inTurn (λ j. f j ∷ []) n) k d ≡ f k
 at-ones f n k d h =

@@ -1,9 +1,6 @@
 // The two clocks. Each is a type of its own, so that one kind is never compared with the other.
 ghost use mathlib.Core.Path.{_≡_};
-ghost use Prim.Native.Nat.{_<_};
-ghost use lib.Dec.{ltb, eqb};
-ghost use Rattle.rules.specs.Limits.{lastClock};
-ghost use Rattle.rules.specs.Clocks.{sourceInRange, destinationInRange, sourceAbove, destinationAbove, sourceNext, destinationNext};
+ghost use Rattle.ground.specs.Clocks.{sourceInRange, sourceAbove, sourceSame, sourceBeforeEnd, sourceNext, destinationInRange, destinationAbove, destinationSame, destinationBeforeEnd, destinationNext};
 use crate::limits::LAST_CLOCK;
 
 // Advanced when a station makes a token.
@@ -26,22 +23,25 @@ impl SourceClock {
         other.0 < self.0
     }
 
-    pub(crate) fn equals(self, other: SourceClock) -> bool
-        ensures { λ r. ⌜ r ≡ eqb (self .0) (other .0) ⌝ }
+    pub fn equals(self, other: SourceClock) -> bool
+        ensures { λ r. ⌜ r ≡ sourceSame self other ⌝ }
     {
         self.0 == other.0
     }
 
-    pub(crate) fn before_end(self) -> bool
-        ensures { λ r. ⌜ r ≡ ltb (self .0) lastClock ⌝ }
+    pub fn before_end(self) -> bool
+        ensures { λ r. ⌜ r ≡ sourceBeforeEnd self ⌝ }
     {
         self.0 < LAST_CLOCK
     }
 
-    pub(crate) fn next(self) -> SourceClock
-        requires { ⌜ self .0 < lastClock ⌝ }
+    // One step on; at its end the clock stays.
+    pub fn next(self) -> SourceClock
         ensures { λ r. ⌜ r ≡ sourceNext self ⌝ }
     {
+        if LAST_CLOCK <= self.0 {
+            return self;
+        }
         SourceClock(self.0 + 1)
     }
 }
@@ -60,22 +60,25 @@ impl DestinationClock {
         other.0 < self.0
     }
 
-    pub(crate) fn equals(self, other: DestinationClock) -> bool
-        ensures { λ r. ⌜ r ≡ eqb (self .0) (other .0) ⌝ }
+    pub fn equals(self, other: DestinationClock) -> bool
+        ensures { λ r. ⌜ r ≡ destinationSame self other ⌝ }
     {
         self.0 == other.0
     }
 
-    pub(crate) fn before_end(self) -> bool
-        ensures { λ r. ⌜ r ≡ ltb (self .0) lastClock ⌝ }
+    pub fn before_end(self) -> bool
+        ensures { λ r. ⌜ r ≡ destinationBeforeEnd self ⌝ }
     {
         self.0 < LAST_CLOCK
     }
 
-    pub(crate) fn next(self) -> DestinationClock
-        requires { ⌜ self .0 < lastClock ⌝ }
+    // One step on; at its end the clock stays.
+    pub fn next(self) -> DestinationClock
         ensures { λ r. ⌜ r ≡ destinationNext self ⌝ }
     {
+        if LAST_CLOCK <= self.0 {
+            return self;
+        }
         DestinationClock(self.0 + 1)
     }
 }

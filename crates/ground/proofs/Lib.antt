@@ -1,0 +1,10 @@
+pub mod Tests
+pub mod Choices
+pub mod Below
+pub mod First
+pub mod Sums
+pub mod Stores
+pub mod InTurn
+pub mod Refusing
+pub mod Onward
+pub mod Halves

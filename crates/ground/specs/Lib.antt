@@ -1,0 +1,11 @@
+pub mod Limits
+pub mod Answers
+pub mod Refusals
+pub mod Choice
+pub mod Told
+pub mod Clocks
+pub mod Half
+pub mod Below
+pub mod First
+pub mod Sums
+pub mod InTurn
