@@ -1,5 +1,5 @@
--- No wrong outcome of a clock, of the rules, of a table, of a run of steps, of a script or of a call
--- from C is what is promised. Assumes nothing.
+-- No wrong outcome of a clock, of the rules, of a table, of a run of steps, of a script or of a
+-- call from C is what is promised. Assumes nothing.
 use lib.Dec.{T}
 use Rattle.ground.specs.Below.{allBelow}
 use Rattle.station.specs.Sound.{stationSound, messageSound}

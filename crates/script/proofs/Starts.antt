@@ -1,7 +1,7 @@
 -- A script starts with a sound table and its first step's number, or it is refused and prints one
 -- line. Assumes nothing.
 use Prim.Native.Nat.{ℕ, zero, suc, _≤_, _<_}
-use mathlib.Core.Path.{_≡_, refl, sym}
+use mathlib.Core.Path.{_≡_, refl}
 use mathlib.Core.Bool.{Bool, true, false, cond}
 use mathlib.Core.List.{List, [], _∷_}
 use native.Mathlib.Omega.{arith}
@@ -27,14 +27,6 @@ use Rattle.script.specs.Starting.{notStarted, startedOf, startFor, start
 use Rattle.script.proofs.Readings.{past-onward, past-within}
 use Rattle.script.proofs.Runs.{owedFrom, past-left}
 
--- the answer of a table that was made, by cases
-pub made-done : (made : Stepped) (at : ℕ) → made .answer ≡ 0 → record { answer = 0; result = 0; run = record { table = made .table; at = at; number = 1; finished = false } } ≡ startWith made at
-made-done made at e = rw e
-
-pub made-refused : (made : Stepped) (at n : ℕ) → made .answer ≡ n → (n ≡ 0 → ⊥) → notStarted n ≡ startWith made at
-made-refused made at zero e f = absurd (f refl)
-made-refused made at (suc n) e f = rw e
-
 -- how a script begins: with one line that refuses it, or with a sound table and number 1, at a
 -- position behind the first line
 pub data Begun (script : List ℕ) (s : Started) : Type 0 where
@@ -49,8 +41,8 @@ fresh-by count false e z = let n : _≡_ {A = ℕ} 1 0 = rw e at z in absurd (om
 
 module _ (script : List ℕ) (some : 0 < length script) where
   made-begun : (made : Stepped) (n : ℕ) → made .answer ≡ n → (made .answer ≡ 0 → tableSound (made .table) ≡ true) → length script ≤ mostBytes → Begun script (startWith made (pastLine script 0))
-  made-begun made zero e s h = going (made .table) (pastLine script 0) (sym (made-done made (pastLine script 0) e)) (s e) (omega (arith, past-onward script 0 some)) (past-within script 0) h
-  made-begun made (suc n) e s h = refused n (sym (made-refused made (pastLine script 0) (suc n) e (λ z. omega arith)))
+  made-begun made zero e s h = going (made .table) (pastLine script 0) (rw e) (s e) (omega (arith, past-onward script 0 some)) (past-within script 0) h
+  made-begun made (suc n) e s h = refused n (rw e)
 
   first-begun : (first : Numeral) → length script ≤ mostBytes → Begun script (startFor first (pastLine script 0))
   first-begun Unreadable h = refused 11 refl

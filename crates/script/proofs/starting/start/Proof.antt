@@ -1,8 +1,8 @@
 use borrow.Author.Needs.{needs}
 use borrow.Author.Tests.{lt-ltb, le-ltb}
-use mathlib.Core.Path.{refl, _∙_}
+use mathlib.Core.Path.{_∙_}
 use Rattle.script.specs.Starting.{startedOf}
-use Rattle.script.proofs.Starts.{made-done, made-refused}
+use Rattle.ground.proofs.Choices.{when-done, when-refused}
 use Rattle.script.proofs.starting.start.Statement.{statement}
 use Rattle.script.proofs.starting.start.Tie as tie
 
@@ -40,14 +40,14 @@ not-started-requires-3 c κs = search needs
 
 returns-3 : tie.Need-returns-3
 unfolding startedOf
-returns-3 c = rw (le-ltb 65536 _ (c .before .before .before .before .before .before .before .before .before .if1 .left), ← c .before .before .before .before .before .before .before .before .line-at .ensures, ← c .before .before .before .before .before .before .before .stations-of .ensures, c .before .before .before .before .before .count .given .1, ← c .before .before .before .fresh-table .ensures) (c .not-started3 .ensures ∙ made-refused (c .before .before .before .fresh-table .result) _ _ refl (c .before .if2 .taken))
+returns-3 c = rw (le-ltb 65536 _ (c .before .before .before .before .before .before .before .before .before .if1 .left), ← c .before .before .before .before .before .before .before .before .line-at .ensures, ← c .before .before .before .before .before .before .before .stations-of .ensures, c .before .before .before .before .before .count .given .1, ← c .before .before .before .fresh-table .ensures) (c .not-started3 .ensures ∙ when-refused (c .before .before .before .fresh-table .result .answer) _ _ (c .before .if2 .taken))
 
 past-line-requires : tie.Need-past-line-requires
 past-line-requires c κs = search needs
 
 returns-4 : tie.Need-returns-4
 unfolding startedOf
-returns-4 c = rw (le-ltb 65536 _ (c .before .before .before .before .before .before .before .before .before .before .if1 .left), ← c .before .before .before .before .before .before .before .before .before .line-at .ensures, ← c .before .before .before .before .before .before .before .before .stations-of .ensures, c .before .before .before .before .before .before .count .given .1, ← c .before .before .before .before .fresh-table .ensures, ← c .past-line .ensures) (made-done (c .before .before .before .before .fresh-table .result) (c .past-line .result) (c .before .before .if2 .left))
+returns-4 c = rw (le-ltb 65536 _ (c .before .before .before .before .before .before .before .before .before .before .if1 .left), ← c .before .before .before .before .before .before .before .before .before .line-at .ensures, ← c .before .before .before .before .before .before .before .before .stations-of .ensures, c .before .before .before .before .before .before .count .given .1, ← c .before .before .before .before .fresh-table .ensures, ← c .past-line .ensures) (when-done _ _ (c .before .before .if2 .left))
 
 pub start-spec : {M : Type 1} → statement M
 start-spec =
