@@ -159,29 +159,40 @@ function reads_four(    rest, n, i, part, form) {
 
 # ---- how many bytes the longest record has, from the widths of what it is made of
 
-FILENAME ~ /record\/specs\/Layout\.antt$/ {
+FILENAME ~ /record\/specs\/Fields\.antt$/ {
     rest = $0
-    if (sub(/^field tag body = /, "", rest) && sub(/ \+\+ body$/, "", rest)) head = width(rest)
-    else if (sub(/^clocks s d = /, "", rest)) wide["clocks"] = width(rest)
-    else if (sub(/^held s d quantity = /, "", rest)) wide["held"] = width(rest)
-    else if (sub(/^slotField \(OneSlot l\) = /, "", rest)) wide["slotField"] = width(rest)
-    else if (sub(/^tokenField \(OneToken t\) = /, "", rest)) wide["tokenField"] = width(rest)
-    else if (sub(/^front m = /, "", rest)) wide["front"] = width(rest)
-    else if (sub(/^bytesOf m = /, "", rest)) defines("size", "RECORD_MAX", width(rest), here())
+    if (sub(/^tagged tag sizes numbers = /, "", rest)) {
+        if (rest !~ /^big [0-9]+ tag \+\+ big [0-9]+ \(total sizes\) \+\+ bodyOf sizes numbers$/) unread()
+        head = $7 + $11
+    }
 }
 
-function width(text,    n, i, part, sum, inner) {
-    n = split(text, part, / \+\+ /)
+FILENAME ~ /record\/specs\/Dateless\.antt$/ {
+    if (/^[a-z]+Field = /) {
+        if ($3 !~ /^(required|optional)$/ || $4 !~ /^[0-9]+$/) unread()
+        wide[$1] = head + body_length($0)
+    } else if (/^dateless = /) defines("size", "RECORD_MAX", width($0), here())
+}
+
+# the sum of a list of sizes, (4 ∷ 4 ∷ 8 ∷ [])
+function body_length(text,    n, i, part, sum) {
+    if (!sub(/^[^(]*\(/, "", text) || !sub(/ ∷ \[\]\) [A-Za-z]+$/, "", text)) unread()
+    n = split(text, part, / ∷ /)
     for (i = 1; i <= n; i++) {
-        inner = part[i]
-        if (inner ~ /^big [0-9]+ /) sum += substr(inner, 5) + 0
-        else if (sub(/^field [0-9]+ \(/, "", inner) && sub(/\)$/, "", inner)) {
-            sum += head + width(inner)
-        } else {
-            sub(/ .*/, "", inner)
-            if (!(inner in wide)) unread()
-            sum += wide[inner]
-        }
+        if (part[i] !~ /^[0-9]+$/) unread()
+        sum += part[i]
+    }
+    return sum
+}
+
+# the sum of the widths of a table's lines
+function width(text,    n, i, part, sum) {
+    sub(/^dateless = /, "", text)
+    if (!sub(/ ∷ \[\]$/, "", text)) unread()
+    n = split(text, part, / ∷ /)
+    for (i = 1; i <= n; i++) {
+        if (!(part[i] in wide)) unread()
+        sum += wide[part[i]]
     }
     return sum
 }

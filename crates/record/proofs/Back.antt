@@ -1,25 +1,22 @@
--- The bytes of what a record may hold are read back as just that, with their length, for any table that is clear.
--- Assumes nothing.
+-- The bytes of what a record may hold are read back as just that, with their length, for any table
+-- that is clear. Assumes nothing.
 use Prim.Native.Nat.{ℕ, _+_, _-_, _≤_, _<_, _^_}
 use mathlib.Core.Path.{_≡_, refl, ap, sym, subst, _∙_}
 use mathlib.Core.Logic.{_⊎_, inl, inr, ⊎-elim}
 use mathlib.Core.List.{List, [], _∷_, _++_, append-assoc, append-nil}
-use mathlib.Core.Bool.{Bool, true, false, cond, _&&_, _||_, not, and-false, or-true}
+use mathlib.Core.Bool.{Bool, true, false, _&&_, _||_, not, or-true}
 use native.Mathlib.Omega.{arith}
-use native.Mathlib.Nat.{add-assoc, add-zero}
+use native.Mathlib.Nat.{add-assoc}
 use lib.Dec.{eqb, ltb}
-use lib.ListN.{length, drop, take, length-append, length-drop}
+use lib.ListN.{length, drop, length-append, length-drop}
 use lib.Seq.{drop-drop, take-at, drop-at}
 use borrow.Author.Tests.{ltb-true, eq-eqb}
 use Rattle.record.specs.Numbers.{big, numberAt}
-use Rattle.record.specs.Fields.{Body, missing, body, Field, total, bodyOf, tagged, bytesOf, Fill, May, Content, mayCome, clear}
-use Rattle.record.specs.Walk.{Walk, going, stopped, Look, here, away, fault, look, numbersAt, taken, step, ended, none, walkFrom}
+use Rattle.record.specs.Fields.{Body, missing, body, Field, total, bodyOf, tagged, bytesOf, Fill, Content, mayCome, clear}
+use Rattle.record.specs.Walk.{going, away, look, numbersAt, taken, step, ended, none, walkFrom}
+use Rattle.ground.proofs.Tests.{both-hold}
 use Rattle.record.proofs.Digits.{length-big, number-back}
 use Rattle.record.proofs.Looks.{Here, looks-here, looks-none, looks-past}
-
-pub both : (a b : Bool) → (a && b) ≡ true → (a ≡ true) × (b ≡ true)
-both true b e = (refl, e)
-both false b e = let z : _≡_ {A = ℕ} 0 1 = cc in absurd (omega arith)
 
 length-body : (sizes numbers : List ℕ) → Fill sizes numbers → length (bodyOf sizes numbers) ≡ total sizes
 length-body [] [] f = refl
@@ -38,9 +35,9 @@ cleared : (f : Field) (fs : List Field) → clear (f ∷ fs) ≡ true → Cleare
 cleared f fs k =
     let fits = ltb (f .tag) 256 && ltb (total (f .sizes)) 65536 in
     let apart = f .must || not (mayCome (f .tag) fs) in
-    let a = both (fits && apart) (clear fs) k in
-    let b = both fits apart (a .0) in
-    let c = both (ltb (f .tag) 256) (ltb (total (f .sizes)) 65536) (b .0) in
+    let a = both-hold (fits && apart) (clear fs) k in
+    let b = both-hold fits apart (a .0) in
+    let c = both-hold (ltb (f .tag) 256) (ltb (total (f .sizes)) 65536) (b .0) in
     record { tag-fits = ltb-true (f .tag) 256 (c .0); size-fits = ltb-true (total (f .sizes)) 65536 (c .1); apart = b .1; rest = a .1 }
 
 module _ (bytes : List ℕ) where

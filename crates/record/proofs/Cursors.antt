@@ -1,16 +1,15 @@
 -- What the code knows of a field that it looked for, as a step of the walk, for any line of any
 -- table. Assumes nothing.
-use Prim.Native.Nat.{ℕ, zero, suc, _+_, _≤_}
+use Prim.Native.Nat.{ℕ, zero, suc, _+_}
 use mathlib.Core.Path.{_≡_, refl, ap, sym, subst, _∙_}
 use mathlib.Core.Logic.{_⊎_, inl, inr}
 use mathlib.Core.List.{List, [], _∷_, _++_}
 use mathlib.Core.Bool.{Bool, true, false}
 use native.Mathlib.Omega.{arith}
-use lib.ListN.{length}
 use Rattle.record.specs.declared.fields.Cursor.{Cursor}
 use Rattle.record.specs.Faults.{unsoundNumber}
 use Rattle.record.specs.Fields.{Body, missing, body, Field, total}
-use Rattle.record.specs.Walk.{Walk, going, stopped, Look, here, away, fault, look, numbersAt, taken, step}
+use Rattle.record.specs.Walk.{going, stopped, Look, here, away, fault, look, numbersAt, taken, step}
 use Rattle.record.specs.Reading.{stood, cursorAt, lineFor, nextOf}
 use Rattle.record.proofs.Looks.{Here, is-here, away-may}
 use Rattle.record.proofs.Named.{Named, named}

@@ -1,6 +1,6 @@
 -- Bytes that are read without a fault are exactly the bytes of what was read, for any table.
 -- Assumes nothing.
-use Prim.Native.Nat.{ℕ, _+_, _≤_, _<_, _^_}
+use Prim.Native.Nat.{ℕ, _+_, _≤_}
 use mathlib.Core.Path.{_≡_, refl, ap, sym, _∙_}
 use mathlib.Core.List.{List, [], _∷_, _++_, append-assoc, append-nil}
 use mathlib.Core.Bool.{Bool, true, false, cond}
@@ -13,7 +13,7 @@ use borrow.Author.Tests.{eqb-true}
 use Rattle.record.specs.Faults.{unsoundNumber, extra}
 use Rattle.record.specs.Numbers.{Bytes, big, numberAt}
 use Rattle.record.specs.Fields.{Body, missing, body, Field, total, bodyOf, tagged, bytesOf, Fill, Content}
-use Rattle.record.specs.Walk.{Walk, going, stopped, Look, here, away, fault, look, numbersAt, taken, step, ended, none, walkFrom}
+use Rattle.record.specs.Walk.{going, stopped, Look, here, away, fault, look, numbersAt, taken, step, ended, none, walkFrom}
 use Rattle.record.proofs.Digits.{digits-first, number-below}
 use Rattle.record.proofs.Looks.{is-here, away-may}
 
@@ -30,7 +30,7 @@ unfolding walkFrom step ended
 stays bytes [] answer place = refl
 stays bytes (f ∷ fs) answer place = stays bytes fs answer place
 
-no-end : (a p end : ℕ) (content : List Body) → stopped a p ≡ going end content → ⊥
+pub no-end : (a p end : ℕ) (content : List Body) → stopped a p ≡ going end content → ⊥
 no-end a p end content e = let z : _≡_ {A = ℕ} 0 1 = cc in omega arith
 
 module _ (bytes : List ℕ) (b : Bytes bytes) where

@@ -7,30 +7,30 @@ use native.Mathlib.Omega.{arith}
 use lib.Dec.{leb, eqb}
 use lib.ListN.{length}
 use borrow.Author.Tests.{leb-true, eqb-true, lt-leb, le-leb, le-ltb, lt-ltb, eq-eqb, ne-eqb}
+use Rattle.ground.proofs.Tests.{both-hold}
 use Rattle.record.specs.declared.fields.Cursor.{Cursor}
 use Rattle.record.specs.Faults.{cut, otherTag, otherLength}
 use Rattle.record.specs.Numbers.{numberAt}
 use Rattle.record.specs.Walk.{Look, here, away, fault, look}
 use Rattle.record.specs.Reading.{wholeAt, cursorAt}
 use Rattle.record.proofs.Looks.{Here, looks-none, looks-past, looks-here}
-use Rattle.record.proofs.Back.{both}
 
 neither : (must last : Bool) → (must || last) ≡ true → (not must && not last) ≡ false
 neither true last e = refl
 neither false true e = refl
 neither false false e = sym e
 
-both-false : (must last : Bool) → (must || last) ≡ false → (must ≡ false) × (last ≡ false)
-both-false false false e = (refl, refl)
-both-false false true e = let z : _≡_ {A = ℕ} 0 1 = cc in absurd (omega arith)
-both-false true last e = let z : _≡_ {A = ℕ} 0 1 = cc in absurd (omega arith)
+both-hold-false : (must last : Bool) → (must || last) ≡ false → (must ≡ false) × (last ≡ false)
+both-hold-false false false e = (refl, refl)
+both-hold-false false true e = let z : _≡_ {A = ℕ} 0 1 = cc in absurd (omega arith)
+both-hold-false true last e = let z : _≡_ {A = ℕ} 0 1 = cc in absurd (omega arith)
 
 module _ (bytes : List ℕ) (at tag size : ℕ) where
   pub whole-here : wholeAt bytes at tag size ≡ true → Here bytes at tag size
   unfolding wholeAt
   whole-here e =
-      let p = both (leb (at + 3 + size) (length bytes) && eqb (numberAt bytes at 1) tag) (eqb (numberAt bytes (at + 1) 2) size) e in
-      let q = both (leb (at + 3 + size) (length bytes)) (eqb (numberAt bytes at 1) tag) (p .0) in
+      let p = both-hold (leb (at + 3 + size) (length bytes) && eqb (numberAt bytes at 1) tag) (eqb (numberAt bytes (at + 1) 2) size) e in
+      let q = both-hold (leb (at + 3 + size) (length bytes)) (eqb (numberAt bytes at 1) tag) (p .0) in
       record { tag-is = eqb-true _ _ (q .1); size-is = eqb-true _ _ (p .1); room = leb-true _ _ (q .0) }
 
   pub too-short : length bytes < at + 3 + size → false ≡ wholeAt bytes at tag size
@@ -80,7 +80,7 @@ module _ (bytes : List ℕ) (at tag size : ℕ) where
           ))
 
       pub gone : (numberAt bytes at 1 ≡ tag → ⊥) → (must || last) ≡ false → stop 0 at ≡ found
-      gone f m = let b = both-false must last m in is away (rw (b .0, b .1) (looks-past bytes at tag size h f))
+      gone f m = let b = both-hold-false must last m in is away (rw (b .0, b .1) (looks-past bytes at tag size h f))
 
       module _ (t : numberAt bytes at 1 ≡ tag) where
         pub wrong-length : (numberAt bytes (at + 1) 2 ≡ size → ⊥) → stop otherLength at ≡ found

@@ -1,23 +1,21 @@
 -- Fields 1 to 4 as the code reads them: what each of its ends says of the walk. Assumes nothing.
 use Prim.Native.Nat.{ℕ, _+_, _≤_, _<_}
-use mathlib.Core.Path.{_≡_, refl, ap, sym, _∙_}
-use mathlib.Core.Logic.{_⊎_, inl, inr}
+use mathlib.Core.Path.{_≡_, refl, ap}
+use mathlib.Core.Logic.{inl}
 use mathlib.Core.List.{List, [], _∷_}
-use mathlib.Core.Bool.{Bool, true, false, _&&_, _||_, not, and-false}
+use mathlib.Core.Bool.{true, false, _&&_, _||_, not, and-false}
 use native.Mathlib.Omega.{arith}
 use lib.Dec.{ltb, leb, eqb}
-use lib.ListN.{length}
 use borrow.Author.Tests.{ltb-true, ltb-false, lt-leb, le-leb}
 use Rattle.ground.specs.Limits.{lastClock, mostValue}
 use Rattle.ground.proofs.Tests.{by-test}
 use Rattle.record.specs.declared.fields.Cursor.{Cursor}
-use Rattle.record.specs.declared.front.Front.{Front}
 use Rattle.record.specs.Faults.{unsoundNumber}
 use Rattle.record.specs.Numbers.{numberAt}
 use Rattle.record.specs.Fields.{Body, body}
-use Rattle.record.specs.Walk.{Walk, going, stopped, step}
+use Rattle.record.specs.Walk.{going, stopped, step}
 use Rattle.record.specs.Dateless.{fromField, toField, valueField, clocksField}
-use Rattle.record.specs.Reading.{stood, lineFor, nextOf, endsWalk, endsBodies, frontWalk, frontBodies}
+use Rattle.record.specs.Reading.{stood, lineFor, nextOf, endsWalk, endsBodies, frontWalk}
 use Rattle.record.proofs.Looks.{Here}
 use Rattle.record.proofs.Cursors.{stood-stops, faulted, stands, took, refused}
 

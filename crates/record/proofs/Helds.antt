@@ -1,6 +1,6 @@
 -- Fields 5 and 6 as the code reads them, and what the whole walk then comes to. Assumes nothing.
 use Prim.Native.Nat.{ℕ, zero, suc, _+_}
-use mathlib.Core.Path.{_≡_, refl, ap, sym, _∙_}
+use mathlib.Core.Path.{_≡_, refl, sym, _∙_}
 use mathlib.Core.Logic.{_⊎_, inl, inr}
 use mathlib.Core.List.{List, [], _∷_, _++_}
 use mathlib.Core.Bool.{Bool, true, false, _||_, not}
@@ -10,17 +10,17 @@ use borrow.Author.Tests.{eqb-true, eqb-false}
 use Rattle.ground.specs.declared.clocks.SourceClock.{SourceClock}
 use Rattle.ground.specs.declared.clocks.DestinationClock.{DestinationClock}
 use Rattle.rules.specs.declared.held.HeldSlot.{HeldSlot}
-use Rattle.rules.specs.declared.held.HeldSlot.the-variants.{NoSlot, OneSlot}
+use Rattle.rules.specs.declared.held.HeldSlot.the-variants.{OneSlot}
 use Rattle.rules.specs.declared.held.HeldToken.{HeldToken}
-use Rattle.rules.specs.declared.held.HeldToken.the-variants.{NoToken, OneToken}
+use Rattle.rules.specs.declared.held.HeldToken.the-variants.{OneToken}
 use Rattle.ground.proofs.Tests.{by-test}
 use Rattle.station.specs.Sound.{slotSound, tokenSound}
 use Rattle.record.specs.declared.fields.Cursor.{Cursor}
 use Rattle.record.specs.Faults.{unsoundNumber}
 use Rattle.record.specs.Numbers.{numberAt}
-use Rattle.record.specs.Fields.{Body, missing, body, Field, numberOf, total}
-use Rattle.record.specs.Walk.{Walk, going, stopped, numbersAt, step}
-use Rattle.record.specs.Dateless.{slotIn, tokenIn, slotField, tokenField, slotBody, tokenBody}
+use Rattle.record.specs.Fields.{Body, missing, Field, numberOf}
+use Rattle.record.specs.Walk.{going, stopped, numbersAt, step}
+use Rattle.record.specs.Dateless.{slotField, tokenField, slotBody, tokenBody}
 use Rattle.record.specs.Reading.{stood, lineFor, nextOf}
 use Rattle.record.proofs.Looks.{Here}
 use Rattle.record.proofs.Cursors.{stood-stops, stood-goes, faulted, missed, stands, took, refused}

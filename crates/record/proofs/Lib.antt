@@ -3,13 +3,12 @@ pub mod Bytes
 pub mod Looks
 pub mod Back
 pub mod Exact
-pub mod Theorems
-pub mod More
+pub mod AnyTable
+pub mod OneMore
 pub mod Passed
 pub mod Again
 pub mod Named
 pub mod Cursors
-pub mod Tests
 pub mod Finding
 pub mod Lent
 pub mod Fronts
@@ -21,3 +20,5 @@ pub mod Printed
 pub mod Messages
 pub mod Receiving
 pub mod WriteRead
+pub mod Tables
+pub mod Places

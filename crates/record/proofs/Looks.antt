@@ -1,13 +1,12 @@
--- What a look at a field says of the bytes, and what bytes make it say.
--- Assumes nothing.
-use Prim.Native.Nat.{ℕ, _+_, _≤_, _<_}
+-- What a look at a field says of the bytes, and what bytes make it say. Assumes nothing.
+use Prim.Native.Nat.{ℕ, _+_, _≤_}
 use mathlib.Core.Path.{_≡_, refl}
 use mathlib.Core.List.{List}
 use mathlib.Core.Bool.{Bool, true, false, cond, _&&_, not, and-false}
 use native.Mathlib.Omega.{arith}
 use lib.Dec.{ltb, leb, eqb}
 use lib.ListN.{length}
-use borrow.Author.Tests.{ltb-false, leb-false, eqb-true, not-false, lt-leb, le-leb, le-ltb, eq-eqb, ne-eqb}
+use borrow.Author.Tests.{ltb-false, eqb-true, not-false, lt-leb, le-leb, le-ltb, eq-eqb, ne-eqb}
 use Rattle.record.specs.Faults.{cut, otherTag, otherLength}
 use Rattle.record.specs.Numbers.{numberAt}
 use Rattle.record.specs.Walk.{Look, here, away, fault, look}

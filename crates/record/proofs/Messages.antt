@@ -3,12 +3,12 @@
 use Prim.Native.Nat.{ℕ, zero, suc, _≤_}
 use mathlib.Core.Path.{_≡_, refl, ap, sym, subst, _∙_}
 use mathlib.Core.Logic.{_⊎_, inl, inr, ⊎-elim}
-use mathlib.Core.List.{List, [], _∷_, _++_}
-use mathlib.Core.Bool.{Bool, true, false, _&&_, not, and-false}
+use mathlib.Core.List.{List, [], _∷_}
+use mathlib.Core.Bool.{true, false, not, and-false}
 use native.Mathlib.Omega.{arith}
 use lib.ListN.{length}
-use lib.Dec.{leb, ltb, eqb}
-use borrow.Author.Tests.{leb-true, ltb-true, le-leb}
+use lib.Dec.{leb, eqb}
+use borrow.Author.Tests.{leb-true}
 use Rattle.ground.specs.declared.clocks.SourceClock.{SourceClock}
 use Rattle.ground.specs.declared.clocks.DestinationClock.{DestinationClock}
 use Rattle.rules.specs.declared.held.HeldSlot.{HeldSlot}
@@ -18,18 +18,16 @@ use Rattle.rules.specs.declared.held.HeldToken.the-variants.{NoToken, OneToken}
 use Rattle.rules.specs.declared.message.Message.{Message}
 use Rattle.ground.specs.Limits.{lastClock, mostValue}
 use Rattle.station.specs.Sound.{slotSound, tokenSound, messageSound}
-use Rattle.ground.proofs.Tests.{needed, by-test}
 use Rattle.record.specs.declared.reading.Reading.{Reading}
 use Rattle.record.specs.Numbers.{Bytes}
-use Rattle.record.specs.Fields.{Body, missing, body, bodyAt, numberOf, bytesOf, Fill, May, Content, clear}
+use Rattle.record.specs.Fields.{Body, missing, body, bodyAt, numberOf, bytesOf, May, Content, clear}
 use Rattle.record.specs.Walk.{Walk, going, stopped, walk}
 use Rattle.record.specs.Dateless.{slotIn, tokenIn, slotField, tokenField, slotBody, tokenBody, dateless, bodiesOf, messageIn, recordOf}
-use Rattle.record.specs.Reading.{walkedOf, walked, goes, isRecord, noReading, readingOf, readOf}
-use Rattle.record.proofs.Tests.{at-most, below}
-use Rattle.record.proofs.Theorems.{Reads, Form, reads-back, exactly}
-use Rattle.record.proofs.Back.{both}
+use Rattle.record.specs.Reading.{walkedOf, walked, isRecord, noReading, readingOf, readOf}
+use Rattle.ground.proofs.Tests.{needed, not-allowed, at-most, below, by-test, both-hold}
+use Rattle.record.proofs.AnyTable.{reads-back, exactly}
 use Rattle.record.proofs.Passed.{Passes, Passed, went}
-use Rattle.record.proofs.Again.{remade, again, same-again}
+use Rattle.record.proofs.Again.{remade, same-again}
 use Rattle.record.proofs.Named.{Sure, sure}
 use Rattle.record.proofs.Whole.{slot-back, token-back}
 
@@ -53,10 +51,6 @@ token-may (OneToken t) before clock o c e =
     let q = at-most (t .quantity) mostValue (λ g. simp g at o) in
     ((omega arith, (omega arith, (omega arith, tt))), rw e o)
 
-not-needed : (t : Bool) → (t ≡ true → false ≡ true) → t ≡ false
-not-needed true f = sym (f refl)
-not-needed false f = refl
-
 -- a sound message may be held by a record
 pub content : (m : Message) → messageSound m ≡ true → Content dateless [] (bodiesOf m)
 unfolding messageSound
@@ -65,7 +59,7 @@ content m o =
     let f′ = leb-true (m .from) 15 f in
     let t = needed (leb (m .to) 15) (λ g. simp (g, and-false) at o) in
     let t′ = leb-true (m .to) 15 t in
-    let n = not-needed (eqb (m .from) (m .to)) (λ g. simp (g, and-false) at o) in
+    let n = not-allowed (eqb (m .from) (m .to)) (λ g. sym (simp (g, and-false) at o)) in
     let v = needed (leb (m .value) mostValue) (λ g. simp (g, and-false) at o) in
     let v′ = leb-true (m .value) mostValue v in
     let s′ = needed (leb (m .source .0) lastClock) (λ g. simp (g, and-false) at o) in
@@ -105,7 +99,7 @@ token-sound before (body n) m = m .1
 pub sound-of : (m : Message) → Passed dateless [] (bodiesOf m) → messageSound m ≡ true
 unfolding messageSound
 sound-of m p =
-    let to = both (leb (m .to) 15) (not (eqb (m .from) (m .to))) (p .1 .0 .1) in
+    let to = both-hold (leb (m .to) 15) (not (eqb (m .from) (m .to))) (p .1 .0 .1) in
     let slot : slotSound (m .slot) (m .destination) ≡ true = rw (← slot-back (m .slot)) (slot-sound _ (slotBody (m .slot)) (p .1 .1 .1 .1 .0)) in
     let token : tokenSound (m .token) (m .source) ≡ true = rw (← token-back (m .token)) (token-sound _ (tokenBody (m .token)) (p .1 .1 .1 .1 .1 .0)) in
     rw (p .0 .1, to .0, to .1, p .1 .1 .0 .1, p .1 .1 .1 .0 .1, slot, token)

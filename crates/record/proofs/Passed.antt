@@ -1,18 +1,17 @@
 -- What was read without a fault has passed the tests of its table, whatever list of numbers was
 -- read. Assumes nothing.
 use Prim.Native.Nat.{ℕ, _+_}
-use mathlib.Core.Path.{_≡_, refl, ap, sym, _∙_}
+use mathlib.Core.Path.{_≡_, refl, sym, _∙_}
 use mathlib.Core.List.{List, [], _∷_, _++_, append-assoc, append-nil}
 use mathlib.Core.Bool.{Bool, true, false, cond}
-use native.Mathlib.Omega.{arith}
 use lib.Dec.{eqb}
 use lib.ListN.{length}
 use borrow.Author.Tests.{eqb-true}
 use Rattle.record.specs.Faults.{unsoundNumber, extra}
 use Rattle.record.specs.Fields.{Body, missing, body, Field, total}
-use Rattle.record.specs.Walk.{Walk, going, stopped, Look, here, away, fault, look, numbersAt, taken, step, ended, none, walkFrom}
+use Rattle.record.specs.Walk.{going, stopped, Look, here, away, fault, look, numbersAt, taken, step, ended, none, walkFrom}
 use Rattle.record.proofs.Looks.{away-may}
-use Rattle.record.proofs.Exact.{stays}
+use Rattle.record.proofs.Exact.{stays, no-end}
 
 -- as many numbers as sizes
 abbrev pub Many : List ℕ → List ℕ → Type 0
@@ -40,9 +39,6 @@ pub record Went (bytes : List ℕ) (fs : List Field) (before : List Body) (end :
 many : (bytes : List ℕ) (at : ℕ) (sizes : List ℕ) → Many sizes (numbersAt bytes at sizes)
 many bytes at [] = tt
 many bytes at (size ∷ sizes) = many bytes (at + size) sizes
-
-no-end : (n p end : ℕ) (content : List Body) → stopped n p ≡ going end content → ⊥
-no-end n p end content e = let z : _≡_ {A = ℕ} 0 1 = cc in omega arith
 
 module _ (bytes : List ℕ) (end : ℕ) (content : List Body) where
   abbrev On : List Field → Type 0

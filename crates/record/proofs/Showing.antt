@@ -1,11 +1,10 @@
 -- Writing the message that a station shows. Assumes nothing.
 use Prim.Native.Nat.{ℕ}
-use mathlib.Core.Path.{_≡_, refl, ap, sym, subst}
+use mathlib.Core.Path.{_≡_, ap, sym, subst}
 use mathlib.Core.List.{List}
 use lib.ListN.{length}
 use borrow.Author.Tests.{lt-ltb, ne-eqb}
 use Rattle.ground.proofs.Refusing.{answer-before}
-use Rattle.ground.specs.declared.told.Told.{Told}
 use Rattle.ground.proofs.Choices.{when-refused}
 use Rattle.station.specs.declared.station.Station.{Station}
 use Rattle.station.specs.Steps.{showRefusals, showAnswer, showing, showOf, messageFor}

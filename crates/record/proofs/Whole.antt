@@ -1,9 +1,9 @@
--- The whole walk as the code makes it: fields 1 to 4, then 5, then 6, then the end. Assumes nothing.
+-- The whole walk as the code makes it: fields 1 to 4, then 5, then 6, then the end. Assumes
+-- nothing.
 use Prim.Native.Nat.{ℕ}
-use mathlib.Core.Path.{_≡_, refl, ap, _∙_}
+use mathlib.Core.Path.{_≡_, refl}
 use mathlib.Core.List.{List, [], _∷_, _++_}
 use mathlib.Core.Bool.{true, false}
-use lib.Dec.{eqb}
 use lib.ListN.{length}
 use borrow.Author.Tests.{eq-eqb, ne-eqb}
 use Rattle.ground.proofs.Choices.{when-done, when-refused}
@@ -11,16 +11,15 @@ use Rattle.rules.specs.declared.held.HeldSlot.{HeldSlot}
 use Rattle.rules.specs.declared.held.HeldSlot.the-variants.{NoSlot, OneSlot}
 use Rattle.rules.specs.declared.held.HeldToken.{HeldToken}
 use Rattle.rules.specs.declared.held.HeldToken.the-variants.{NoToken, OneToken}
-use Rattle.rules.specs.declared.message.Message.{Message}
 use Rattle.record.specs.declared.front.Front.{Front}
 use Rattle.record.specs.declared.held.AfterSlot.{AfterSlot}
 use Rattle.record.specs.declared.held.AfterToken.{AfterToken}
 use Rattle.record.specs.declared.walking.Walked.{Walked}
 use Rattle.record.specs.Faults.{extra}
 use Rattle.record.specs.Fields.{Body}
-use Rattle.record.specs.Walk.{Walk, going, stopped, step, ended, walkFrom, walk}
-use Rattle.record.specs.Dateless.{slotIn, tokenIn, slotField, tokenField, slotBody, tokenBody, dateless, messageIn}
-use Rattle.record.specs.Reading.{stood, endsWalk, frontWalk, frontBodies, SlotNext, TokenNext, stopsAt, walkedOf, walked, noReading, readOf}
+use Rattle.record.specs.Walk.{step, ended, walkFrom, walk}
+use Rattle.record.specs.Dateless.{slotIn, tokenIn, slotField, tokenField, slotBody, tokenBody, dateless}
+use Rattle.record.specs.Reading.{stood, endsWalk, frontWalk, frontBodies, SlotNext, TokenNext, stopsAt, walked, noReading, readOf}
 use Rattle.record.proofs.Cursors.{stood-stops, stood-goes}
 
 pub slot-back : (h : HeldSlot) → slotIn (slotBody h) ≡ h

@@ -1,9 +1,8 @@
-use Prim.Native.Nat.{_≤_}
-use mathlib.Core.Path.{_≡_, ap, sym, _∙_}
+use mathlib.Core.Path.{_∙_}
 use native.Mathlib.Omega.{arith}
 use borrow.Author.Needs.{needs}
-use Rattle.record.specs.Reading.{endsWalk, endsBodies, frontWalk}
-use Rattle.record.specs.Walk.{going, step}
+use Rattle.record.specs.Reading.{endsBodies, frontWalk}
+use Rattle.record.specs.Walk.{step}
 use Rattle.record.proofs.Looks.{Here}
 use Rattle.record.proofs.Cursors.{stood-stops, stood-goes}
 use Rattle.record.proofs.Fronts.{third-fault, third-here, value-fault, fourth-fault, fourth-here, front-taken}

@@ -15,7 +15,7 @@ use contract.Lifetimes.{Lfts, Shares}
 use contract.Running.{GhostRules, Running, givenOf}
 use types.Kit.{‵, raw, _⊛_, _$_, _∵_, !, qed, by, move, use0, use1, fsplit, fjoin, split, join, frame, done}
 use types.Run.{look, init, forget, stop, from, load, and-then, no-more, land, returns, enter, alloc1, alloc0, params1, pass1, pass0, free1, free0}
-use denote.RattleType.{RattleType, owns}
+use denote.RattleType.{owns}
 use denote.Builtin.{u8, usize}
 use denote.Ref.{RefT, NamedLft, now}
 use denote.Signature.{namedLft}

@@ -1,7 +1,4 @@
-use mathlib.Core.Path.{_≡_, refl, ap, sym, _∙_}
 use borrow.Author.Needs.{needs}
-use Rattle.record.specs.declared.walking.Walked.{Walked}
-use Rattle.record.specs.Reading.{walked, readingOf, readOf}
 use Rattle.record.proofs.Whole.{refusing, accepting}
 use Rattle.record.proofs.reading.read.Statement.{statement}
 use Rattle.record.proofs.reading.read.Tie as tie

@@ -1,18 +1,17 @@
--- One more field, that must be there, behind the fields of any table: what it does to writing and to reading.
--- Assumes nothing.
-use Prim.Native.Nat.{ℕ, _<_}
-use mathlib.Core.Path.{_≡_, refl, ap, sym, subst, _∙_}
+-- One more field, that must be there, behind the fields of any table: what it does to writing and
+-- to reading. Assumes nothing.
+use Prim.Native.Nat.{ℕ}
+use mathlib.Core.Path.{_≡_, refl, ap, sym, _∙_}
 use mathlib.Core.List.{List, [], _∷_, _++_, append-assoc, append-nil}
-use mathlib.Core.Bool.{Bool, true, false, _&&_, _||_, not, or-true}
+use mathlib.Core.Bool.{Bool, true, false, _&&_, _||_, not}
 use native.Mathlib.Omega.{arith}
 use lib.Dec.{ltb, eqb}
-use lib.ListN.{length, getD}
-use borrow.Author.Tests.{eqb-true, eqb-false, ne-eqb, not-true}
+use lib.ListN.{length}
+use borrow.Author.Tests.{eqb-false, ne-eqb}
+use Rattle.ground.proofs.Tests.{both-hold}
 use Rattle.record.specs.Numbers.{Bytes}
-use Rattle.record.specs.Fields.{Body, missing, body, Field, total, tagged, fieldOf, bytesOf, Fill, May, Content, mayCome, clear, absent}
-use Rattle.record.specs.Walk.{going, walkFrom}
-use Rattle.record.proofs.Back.{both}
-use Rattle.record.proofs.Theorems.{Reads, Form, reads-back, exactly}
+use Rattle.record.specs.Fields.{Body, missing, body, Field, total, tagged, fieldOf, bytesOf, May, Content, mayCome, clear, absent}
+use Rattle.record.proofs.AnyTable.{Reads, reads-back, exactly}
 
 kept : (m x y : Bool) → (x ≡ false → y ≡ false) → (m || not x) ≡ true → (m || not y) ≡ true
 kept true x y h e = refl
@@ -42,9 +41,9 @@ module _ (f : Field) where
   clear-more [] m fits a k = rw (fits, m)
   clear-more (g ∷ fs) m fits a k =
       let fit = ltb (g .tag) 256 && ltb (total (g .sizes)) 65536 in
-      let x = both (fit && (g .must || not (mayCome (g .tag) fs))) (clear fs) k in
-      let y = both fit (g .must || not (mayCome (g .tag) fs)) (x .0) in
-      let z = both (not (eqb (g .tag) (f .tag))) (absent (f .tag) fs) a in
+      let x = both-hold (fit && (g .must || not (mayCome (g .tag) fs))) (clear fs) k in
+      let y = both-hold fit (g .must || not (mayCome (g .tag) fs)) (x .0) in
+      let z = both-hold (not (eqb (g .tag) (f .tag))) (absent (f .tag) fs) a in
       let apart = kept (g .must) (mayCome (g .tag) fs) (mayCome (g .tag) (fs ++ (f ∷ []))) (come-more (g .tag) fs (eqb-false (g .tag) (f .tag) (not-true′ (eqb (g .tag) (f .tag)) (z .0)))) (y .1) in
       rw (y .0, apart, clear-more fs m fits (z .1) (x .1))
     where
