@@ -57,7 +57,7 @@ pub extern "C" fn qb_station_add(station: &mut [u64; 134], amount: u64) -> ToldN
     moved.told
 }
 
-// Takes the smaller of the value and the amount: refused by 1, 4.
+// Takes the amount, all or none of it: refused by 1, 4, 15.
 #[no_mangle]
 pub extern "C" fn qb_station_draw(station: &mut [u64; 134], amount: u64) -> ToldNumbers
     ensures { λ r. ⌜ Draws (now (station .entry)) amount r (now (station .exit)) ⌝ }

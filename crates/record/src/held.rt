@@ -1,12 +1,12 @@
 // Fields 5 and 6, which may be missing.
 ghost use Rattle.record.specs.Reading.{SlotNext, TokenNext};
+use crate::dateless::SLOT;
+use crate::dateless::TOKEN;
 use crate::faults::UNSOUND_NUMBER;
 use crate::front::destination_at;
 use crate::front::source_at;
 use crate::numbers::number_at;
 use crate::reader::next_at;
-use crate::table::SLOT;
-use crate::table::TOKEN;
 use ground::answers::DONE;
 use ground::clocks::DestinationClock;
 use ground::clocks::SourceClock;

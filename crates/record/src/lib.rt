@@ -1,5 +1,6 @@
 // The message as bytes: one record, read and written, and one station on bytes.
 pub mod at_station;
+mod dateless;
 mod faults;
 mod fields;
 mod front;
@@ -8,7 +9,6 @@ mod numbers;
 mod putting;
 mod reader;
 pub mod reading;
-mod table;
 mod walking;
 pub mod writing;
 
