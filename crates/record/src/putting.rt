@@ -78,7 +78,7 @@ pub(crate) fn put_held(
 }
 
 // Field 5, or nothing where there is no slot.
-pub(crate) fn put_slot(buffer: &mut [u8], at: usize, slot: HeldSlot)
+pub(crate) fn put_slot_field(buffer: &mut [u8], at: usize, slot: HeldSlot)
     requires { ⌜ at + length (slotBytes slot) ≤ length (now buffer) ⌝ }
     ensures { λ _. ⌜ now (buffer .exit) ≡ sets (now (buffer .entry)) at (slotBytes slot) ⌝ }
 {
@@ -89,7 +89,7 @@ pub(crate) fn put_slot(buffer: &mut [u8], at: usize, slot: HeldSlot)
 }
 
 // Field 6, or nothing where there is no token.
-pub(crate) fn put_token(buffer: &mut [u8], at: usize, token: HeldToken)
+pub(crate) fn put_token_field(buffer: &mut [u8], at: usize, token: HeldToken)
     requires { ⌜ at + length (tokenBytes token) ≤ length (now buffer) ⌝ }
     ensures { λ _. ⌜ now (buffer .exit) ≡ sets (now (buffer .entry)) at (tokenBytes token) ⌝ }
 {

@@ -7,8 +7,8 @@ ghost use Rattle.record.specs.Dateless.{recordOf};
 ghost use Rattle.record.specs.Writing.{front, slotBytes, tokenBytes, WritesGiven};
 use crate::putting::put_clocks_field;
 use crate::putting::put_field;
-use crate::putting::put_slot;
-use crate::putting::put_token;
+use crate::putting::put_slot_field;
+use crate::putting::put_token_field;
 use ground::answers::DONE;
 use ground::answers::NO_RECORD;
 use ground::answers::SHORT_BUFFER;
@@ -64,8 +64,8 @@ fn put_record(buffer: &mut [u8], m: Message)
     let slot = m.slot;
     let token = m.token;
     put_front(buffer, m);
-    put_slot(buffer, 30, slot);
-    put_token(buffer, 30 + slot_size(slot), token);
+    put_slot_field(buffer, 30, slot);
+    put_token_field(buffer, 30 + slot_size(slot), token);
 }
 
 // A given message: refused by 9 where it is not sound, by 14 where the buffer is shorter than its

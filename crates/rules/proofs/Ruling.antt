@@ -1,9 +1,8 @@
 -- What each rule comes to, by what is held and shown and by its test. Assumes nothing.
-use Prim.Native.Nat.{ℕ, _+_, _-_, min}
+use Prim.Native.Nat.{ℕ, _+_, min}
 use mathlib.Core.Path.{_≡_}
 use mathlib.Core.Bool.{true, false, _&&_}
 use lib.Dec.{eqb, ltb, leb}
-use Rattle.ground.specs.declared.clocks.SourceClock.{SourceClock}
 use Rattle.ground.specs.declared.clocks.DestinationClock.{DestinationClock}
 use Rattle.rules.specs.declared.held.Slot.{Slot}
 use Rattle.rules.specs.declared.held.Token.{Token}
@@ -14,9 +13,9 @@ use Rattle.rules.specs.declared.held.HeldToken.the-variants.{NoToken, On
 use Rattle.rules.specs.declared.message.Message.{Message}
 use Rattle.rules.specs.declared.side.Side.{Side}
 use Rattle.ground.specs.Limits.{lastClock}
-use Rattle.ground.specs.Clocks.{destinationAbove, sourceNext, destinationNext}
-use Rattle.rules.specs.Side.{putValue, putSource, putDestination, putSlot, putToken}
-use Rattle.rules.specs.Rules.{acts, rests, agree, fillBy, dropSlotBy, openSlotBy, destinationShownBy, dropTokenBy, makeTokenBy}
+use Rattle.ground.specs.Clocks.{destinationAbove, destinationNext}
+use Rattle.rules.specs.Side.{putValue, putDestination, putSlot, putToken}
+use Rattle.rules.specs.Rules.{acts, rests, agree, fillBy, dropSlotBy, openSlotBy, destinationShownBy, dropTokenBy, give, makeTokenBy}
 
 -- what is held or shown is a variable of its own, so that putting its case for it leaves the side
 -- alone
@@ -41,10 +40,9 @@ module _ (x : Side) where
       → rests x ≡ makeTokenBy x h
   make-other eh e = rw (eh, e)
 
-  pub make-acts : {h : HeldSlot} {l : Slot} {q : ℕ} {next : SourceClock} → h ≡ OneSlot l → (eqb (l .source .0) (x .source .0) && ltb (x .source .0) lastClock) ≡ true
-      → q ≡ min (x .value) (l .quantity) → next ≡ sourceNext (x .source)
-      → acts q (putSource (putToken (putValue x (x .value - q)) (OneToken (record { source = l .source; destination = l .destination; quantity = q }))) next) ≡ makeTokenBy x h
-  make-acts eh e f g = rw (f, g, eh, e)
+  pub make-acts : {h : HeldSlot} {l : Slot} {q : ℕ} → h ≡ OneSlot l → (eqb (l .source .0) (x .source .0) && ltb (x .source .0) lastClock) ≡ true
+      → q ≡ min (x .value) (l .quantity) → acts q (give x l q) ≡ makeTokenBy x h
+  make-acts eh e f = rw (f, eh, e)
 
   pub drop-no-token : (shown : DestinationClock) {g : HeldToken} → g ≡ NoToken → rests x ≡ dropTokenBy x shown g
   drop-no-token shown eg = rw eg

@@ -3,7 +3,7 @@ ghost use mathlib.Core.Path.{_≡_};
 ghost use Prim.Native.Nat.{_+_, _≤_, _<_, min};
 ghost use Rattle.ground.specs.Limits.{mostValue};
 ghost use Rattle.ground.specs.Clocks.{destinationAbove};
-ghost use Rattle.rules.specs.Rules.{acts, rests, agree, fill, dropSlot, openSlotBy, destinationShown, dropToken, makeToken};
+ghost use Rattle.rules.specs.Rules.{acts, rests, agree, fill, dropSlot, openSlotBy, destinationShown, dropToken, give, makeToken};
 ghost use Rattle.rules.specs.Taking.{tokenFits};
 use crate::held::HeldSlot;
 use crate::held::HeldToken;
@@ -11,6 +11,11 @@ use crate::held::Slot;
 use crate::held::Token;
 use crate::message::Message;
 use crate::side::Side;
+use crate::side::put_destination;
+use crate::side::put_slot;
+use crate::side::put_source;
+use crate::side::put_token;
+use crate::side::put_value;
 
 // What one rule did: whether it acted, its quantity, and the side that it left.
 pub struct Ruled {
@@ -65,17 +70,10 @@ pub(crate) fn rule1_fill(x: Side, m: Message) -> Ruled
     if !clocks_agree(token, slot) {
         return rests_at(x);
     }
-    let source = x.source;
-    let destination = x.destination;
-    let kept = x.token;
-    let filled = Side {
-        value: x.value + token.quantity,
-        source,
-        destination,
-        slot: HeldSlot::NoSlot,
-        token: kept,
-    };
-    acts_with(token.quantity, filled)
+    acts_with(
+        token.quantity,
+        put_slot(put_value(x, x.value + token.quantity), HeldSlot::NoSlot),
+    )
 }
 
 pub(crate) fn rule2_drop_slot(x: Side, m: Message) -> Ruled
@@ -91,17 +89,7 @@ pub(crate) fn rule2_drop_slot(x: Side, m: Message) -> Ruled
     if !theirs.is_above(asked) {
         return rests_at(x);
     }
-    let source = x.source;
-    let destination = x.destination;
-    let kept = x.token;
-    let dropped = Side {
-        value: x.value,
-        source,
-        destination,
-        slot: HeldSlot::NoSlot,
-        token: kept,
-    };
-    acts_with(0, dropped)
+    acts_with(0, put_slot(x, HeldSlot::NoSlot))
 }
 
 // h is half of what the sender has more.
@@ -116,23 +104,16 @@ pub(crate) fn rule3_open_slot(x: Side, m: Message, h: u64) -> Ruled
     if !((1 <= h) & destination.before_end()) {
         return rests_at(x);
     }
-    let source = x.source;
-    let kept = x.token;
     let theirs = m.source;
     let slot = Slot {
         source: theirs,
         destination,
         quantity: h,
     };
-    let next = destination.next();
-    let opened = Side {
-        value: x.value,
-        source,
-        destination: next,
-        slot: HeldSlot::OneSlot(slot),
-        token: kept,
-    };
-    acts_with(h, opened)
+    acts_with(
+        h,
+        put_destination(put_slot(x, HeldSlot::OneSlot(slot)), destination.next()),
+    )
 }
 
 // Whether the sender's slots for this station that are left are all newer than the token's.
@@ -159,23 +140,32 @@ pub(crate) fn rule4_drop_token(x: Side, m: Message) -> Ruled
     if !is_spent(token, m) {
         return rests_at(x);
     }
-    let source = x.source;
-    let destination = x.destination;
-    let kept = x.slot;
-    let dropped = Side {
-        value: x.value,
-        source,
-        destination,
-        slot: kept,
-        token: HeldToken::NoToken,
-    };
-    acts_with(0, dropped)
+    acts_with(0, put_token(x, HeldToken::NoToken))
 }
 
 pub(crate) fn smaller(a: u64, b: u64) -> u64
     ensures { λ r. ⌜ r ≡ min a b ⌝ }
 {
     if a < b { a } else { b }
+}
+
+// What rule 5 leaves where it acts: q out of the value and in the token, and the source clock one on.
+fn give(x: Side, slot: Slot, q: u64) -> Side
+    requires { ⌜ q ≤ x .value ⌝ }
+    ensures { λ r. ⌜ r ≡ give x slot q ⌝ }
+{
+    let asked = slot.source;
+    let opened = slot.destination;
+    let token = Token {
+        source: asked,
+        destination: opened,
+        quantity: q,
+    };
+    let source = x.source;
+    put_source(
+        put_token(put_value(x, x.value - q), HeldToken::OneToken(token)),
+        source.next(),
+    )
 }
 
 pub(crate) fn rule5_make_token(x: Side, m: Message) -> Ruled
@@ -191,21 +181,5 @@ pub(crate) fn rule5_make_token(x: Side, m: Message) -> Ruled
         return rests_at(x);
     }
     let q = smaller(x.value, slot.quantity);
-    let destination = x.destination;
-    let kept = x.slot;
-    let opened = slot.destination;
-    let token = Token {
-        source: asked,
-        destination: opened,
-        quantity: q,
-    };
-    let next = source.next();
-    let gave = Side {
-        value: x.value - q,
-        source: next,
-        destination,
-        slot: kept,
-        token: HeldToken::OneToken(token),
-    };
-    acts_with(q, gave)
+    acts_with(q, give(x, slot, q))
 }

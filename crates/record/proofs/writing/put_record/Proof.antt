@@ -13,17 +13,17 @@ use Rattle.record.proofs.writing.put_record.Tie as tie
 put-front-requires : tie.Need-put-front-requires
 put-front-requires c κs = omega (arith, length-record (c .before .before .args .m))
 
-put-slot-requires : tie.Need-put-slot-requires
-put-slot-requires c κs = omega (arith, length-record (c .before .before .before .before .before .before .args .m))
+put-slot-field-requires : tie.Need-put-slot-field-requires
+put-slot-field-requires c κs = omega (arith, length-record (c .before .before .before .before .before .before .args .m))
 
 slot-size-requires : tie.Need-slot-size-requires
 slot-size-requires c κs = search needs
 
-add-put-token : tie.Need-add-put-token
-add-put-token c = search needs
+add-put-token-field : tie.Need-add-put-token-field
+add-put-token-field c = search needs
 
-put-token-requires : tie.Need-put-token-requires
-put-token-requires c κs = omega (arith, length-record (c .before .before .before .before .before .before .before .before .before .before .before .args .m))
+put-token-field-requires : tie.Need-put-token-field-requires
+put-token-field-requires c κs = omega (arith, length-record (c .before .before .before .before .before .before .before .before .before .before .before .args .m))
 
 same-length : tie.Need-same-length
 same-length c = search needs
@@ -32,9 +32,9 @@ returns : tie.Need-returns
 returns c =
     let slot = c .before .before .before .before .before .before .before in
     let a = slot .before .before .before .before .before .before .before .args in
-    let e = then (a .buffer .now) 0 30 (front (a .m)) (slotBytes (a .m .slot)) _ _ (slot .before .before .before .before .put-front .ensures) (slot .put-slot .ensures) (simp (length-append, length-big)) in
+    let e = then (a .buffer .now) 0 30 (front (a .m)) (slotBytes (a .m .slot)) _ _ (slot .before .before .before .before .put-front .ensures) (slot .put-slot-field .ensures) (simp (length-append, length-big)) in
     rw (parts (a .m))
-    (then (a .buffer .now) 0 (30 + c .before .before .before .slot-size .result) (front (a .m) ++ slotBytes (a .m .slot)) (tokenBytes (a .m .token)) _ _ e (c .before .before .put-token .ensures)
+    (then (a .buffer .now) 0 (30 + c .before .before .before .slot-size .result) (front (a .m) ++ slotBytes (a .m .slot)) (tokenBytes (a .m .token)) _ _ e (c .before .before .put-token-field .ensures)
     (simp (length-append, length-big) (omega arith)))
 
 pub put-record-spec : {M : Type 1} → statement M
@@ -42,9 +42,9 @@ put-record-spec =
     tie.close
     (tie.spec
     put-front-requires
-    put-slot-requires
+    put-slot-field-requires
     slot-size-requires
-    add-put-token
-    put-token-requires
+    add-put-token-field
+    put-token-field-requires
     same-length
     returns)

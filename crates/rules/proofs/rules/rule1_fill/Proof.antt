@@ -39,14 +39,20 @@ rests-at-requires-3 c κs = search needs
 returns-3 : tie.Need-returns-3
 returns-3 c = c .rests-at3 .ensures ∙ fill-other (c .before .before .before .before .before .before .before .before .before .args .x) (c .before .before .before .before .before .before .before .shown .given .1) (c .before .before .before .before .held .given .1) (sym (c .before .before .clocks-agree .ensures) ∙ not-true _ (c .before .if1 .taken))
 
-add-t13 : tie.Need-add-t13
-add-t13 c = let at = c .before .before .before .before .before .before .before .before .before .before in omega (arith, rw (at .shown .given .1) at (at .before .before .pre .1), at .before .before .pre)
+add-put-value : tie.Need-add-put-value
+add-put-value c = let at = c .before .before .before .before .before .before .before .before in omega (arith, rw (at .shown .given .1) at (at .before .before .pre .1), at .before .before .pre)
+
+put-value-requires : tie.Need-put-value-requires
+put-value-requires c κs = search needs
+
+put-slot-requires : tie.Need-put-slot-requires
+put-slot-requires c κs = search needs
 
 acts-with-requires : tie.Need-acts-with-requires
 acts-with-requires c κs = search needs
 
 returns-4 : tie.Need-returns-4
-returns-4 c = c .acts-with .ensures ∙ fill-acts (c .before .before .before .before .before .before .before .before .before .before .before .before .before .args .x) (c .before .before .before .before .before .before .before .before .before .before .before .shown .given .1) (c .before .before .before .before .before .before .before .before .held .given .1) (sym (c .before .before .before .before .before .before .clocks-agree .ensures) ∙ not-false _ (c .before .before .before .before .before .if1 .left))
+returns-4 c = c .acts-with .ensures ∙ rw (c .before .put-slot .ensures, c .before .before .put-value .ensures) (fill-acts (c .before .before .before .before .before .before .before .before .before .before .before .before .before .args .x) (c .before .before .before .before .before .before .before .before .before .before .before .shown .given .1) (c .before .before .before .before .before .before .before .before .held .given .1) (sym (c .before .before .before .before .before .before .clocks-agree .ensures) ∙ not-false _ (c .before .before .before .before .before .if1 .left)))
 
 pub rule1-fill-spec : {M : Type 1} → statement M
 rule1-fill-spec =
@@ -63,6 +69,8 @@ rule1-fill-spec =
     clocks-agree-requires
     rests-at-requires-3
     returns-3
-    add-t13
+    add-put-value
+    put-value-requires
+    put-slot-requires
     acts-with-requires
     returns-4)

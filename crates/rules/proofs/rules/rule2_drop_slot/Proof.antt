@@ -38,13 +38,16 @@ returns-2 c =
     let a = c .before .before .before .before .before .before .before .before .args in
     drops (a .x) (a .m) (c .rests-at2 .ensures ∙ drop-other-slot (c .before .before .before .before .before .before .before .before .args .x) (c .before .before .before .before .before .before .before .before .args .m) (c .before .before .before .before .before .before .held .given .1) (sym (c .before .before .is-above .ensures) ∙ not-true _ (c .before .if1 .taken)))
 
+put-slot-requires : tie.Need-put-slot-requires
+put-slot-requires c κs = search needs
+
 acts-with-requires : tie.Need-acts-with-requires
 acts-with-requires c κs = search needs
 
 returns-3 : tie.Need-returns-3
 returns-3 c =
-    let a = c .before .before .before .before .before .before .before .before .before .before .args in
-    drops (a .x) (a .m) (c .acts-with .ensures ∙ drop-slot-acts (c .before .before .before .before .before .before .before .before .before .before .args .x) (c .before .before .before .before .before .before .before .before .before .before .args .m) (c .before .before .before .before .before .before .before .before .held .given .1) (sym (c .before .before .before .before .is-above .ensures) ∙ not-false _ (c .before .before .before .if1 .left)))
+    let a = c .before .before .before .before .before .before .before .before .before .args in
+    drops (a .x) (a .m) (c .acts-with .ensures ∙ rw (c .before .put-slot .ensures) (drop-slot-acts (a .x) (a .m) (c .before .before .before .before .before .before .before .held .given .1) (sym (c .before .before .before .is-above .ensures) ∙ not-false _ (c .before .before .if1 .left))))
 
 pub rule2-drop-slot-spec : {M : Type 1} → statement M
 rule2-drop-slot-spec =
@@ -57,5 +60,6 @@ rule2-drop-slot-spec =
     is-above-requires
     rests-at-requires-2
     returns-2
+    put-slot-requires
     acts-with-requires
     returns-3)

@@ -32,19 +32,25 @@ returns-2 c =
     ∙ open-other (a .x) (a .m) (a .h) (c .before .before .before .before .enum-told .given .1)
     (rw (← c .before .before .before-end .ensures) (not-true _ (c .before .if1 .taken)))
 
+put-slot-requires : tie.Need-put-slot-requires
+put-slot-requires c κs = search needs
+
 next-requires : tie.Need-next-requires
 next-requires c κs = search needs
+
+put-destination-requires : tie.Need-put-destination-requires
+put-destination-requires c κs = search needs
 
 acts-with-requires : tie.Need-acts-with-requires
 acts-with-requires c κs = search needs
 
 returns-3 : tie.Need-returns-3
 returns-3 c =
-    let at = c .before .before .before .before .before in
+    let at = c .before .before .before .before .before .before in
     let a = at .before .before .before .before .args in
     c .acts-with .ensures
-    ∙ rw (c .before .next .ensures)
-    (open-acts (a .x) (a .m) (a .h) (at .before .before .enum-told .given .1) (rw (← at .before-end .ensures) (not-false _ (c .before .before .before .before .if1 .left))))
+    ∙ rw (c .before .put-destination .ensures, c .before .before .before .put-slot .ensures, c .before .before .next .ensures)
+    (open-acts (a .x) (a .m) (a .h) (at .before .before .enum-told .given .1) (rw (← at .before-end .ensures) (not-false _ (c .before .before .before .before .before .if1 .left))))
 
 pub rule3-open-slot-spec : {M : Type 1} → statement M
 rule3-open-slot-spec =
@@ -57,6 +63,8 @@ rule3-open-slot-spec =
     before-end-requires
     rests-at-requires-2
     returns-2
+    put-slot-requires
     next-requires
+    put-destination-requires
     acts-with-requires
     returns-3)

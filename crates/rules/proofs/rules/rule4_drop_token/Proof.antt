@@ -30,15 +30,19 @@ returns-2 c =
     let stays = sym (at .is-spent .ensures) ∙ not-true _ (c .before .if1 .taken) in
     c .rests-at2 .ensures ∙ drop-other-token (at .before .before .before .before .args .x) _ (held .given .1) stays
 
+put-token-requires : tie.Need-put-token-requires
+put-token-requires c κs = search needs
+
 acts-with-requires : tie.Need-acts-with-requires
 acts-with-requires c κs = search needs
 
 returns-3 : tie.Need-returns-3
 returns-3 c =
-    let at = c .before .before .before .before in
+    let at = c .before .before .before in
     let held = at .before .before .held in
-    let goes = sym (at .is-spent .ensures) ∙ not-false _ (c .before .before .before .if1 .left) in
-    c .acts-with .ensures ∙ drop-token-acts (at .before .before .before .before .args .x) _ (held .given .1) goes
+    let goes = sym (at .is-spent .ensures) ∙ not-false _ (c .before .before .if1 .left) in
+    c .acts-with .ensures
+    ∙ rw (c .before .put-token .ensures) (drop-token-acts (at .before .before .before .before .args .x) _ (held .given .1) goes)
 
 pub rule4-drop-token-spec : {M : Type 1} → statement M
 rule4-drop-token-spec =
@@ -51,5 +55,6 @@ rule4-drop-token-spec =
     is-spent-requires
     rests-at-requires-2
     returns-2
+    put-token-requires
     acts-with-requires
     returns-3)

@@ -35,19 +35,19 @@ returns-2 c =
 smaller-requires : tie.Need-smaller-requires
 smaller-requires c κs = search needs
 
-next-requires : tie.Need-next-requires
-next-requires c κs = search needs
-
-sub-t18 : tie.Need-sub-t18
-sub-t18 c = search needs
+give-requires : tie.Need-give-requires
+give-requires c κs = search needs
 
 acts-with-requires : tie.Need-acts-with-requires
 acts-with-requires c κs = search needs
 
 returns-3 : tie.Need-returns-3
 returns-3 c =
+    let at = c .before .before .before .before in
+    let test = both-tests (at .before .equals .ensures) (at .before-end .ensures) (not-false _ (c .before .before .before .if1 .left)) in
     c .acts-with .ensures
-    ∙ make-acts (c .before .before .before .before .before .before .before .before .before .before .before .before .before .before .args .x) (c .before .before .before .before .before .before .before .before .before .before .before .before .shown .given .1) (both-tests (c .before .before .before .before .before .before .before .before .equals .ensures) (c .before .before .before .before .before .before .before .before-end .ensures) (not-false _ (c .before .before .before .before .before .before .if1 .left))) (c .before .before .before .before .before .smaller .ensures) (c .before .before .next .ensures)
+    ∙ rw (c .before .give .ensures)
+    (make-acts (at .before .before .before .before .before .before .before .args .x) (at .before .before .before .before .before .shown .given .1) test (c .before .before .smaller .ensures))
 
 pub rule5-make-token-spec : {M : Type 1} → statement M
 rule5-make-token-spec =
@@ -62,7 +62,6 @@ rule5-make-token-spec =
     rests-at-requires-2
     returns-2
     smaller-requires
-    next-requires
-    sub-t18
+    give-requires
     acts-with-requires
     returns-3)

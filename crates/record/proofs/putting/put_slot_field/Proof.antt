@@ -1,8 +1,8 @@
 use native.Mathlib.Omega.{arith}
 use borrow.Author.Needs.{needs}
 use Rattle.record.proofs.Lengths.{length-slot}
-use Rattle.record.proofs.putting.put_slot.Statement.{statement}
-use Rattle.record.proofs.putting.put_slot.Tie as tie
+use Rattle.record.proofs.putting.put_slot_field.Statement.{statement}
+use Rattle.record.proofs.putting.put_slot_field.Tie as tie
 
 enum-known-slot : tie.Need-enum-known-slot
 enum-known-slot c = search needs
@@ -22,6 +22,6 @@ same-length c = search needs
 returns-2 : tie.Need-returns-2
 returns-2 c = rw (c .before .before .before .before .before .slot .given .1) (c .before .before .put-held .ensures)
 
-pub put-slot-spec : {M : Type 1} → statement M
-put-slot-spec =
+pub put-slot-field-spec : {M : Type 1} → statement M
+put-slot-field-spec =
     tie.close (tie.spec enum-known-slot enum-told returns put-held-requires same-length returns-2)

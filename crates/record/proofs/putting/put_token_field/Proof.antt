@@ -1,8 +1,8 @@
 use native.Mathlib.Omega.{arith}
 use borrow.Author.Needs.{needs}
 use Rattle.record.proofs.Lengths.{length-token}
-use Rattle.record.proofs.putting.put_token.Statement.{statement}
-use Rattle.record.proofs.putting.put_token.Tie as tie
+use Rattle.record.proofs.putting.put_token_field.Statement.{statement}
+use Rattle.record.proofs.putting.put_token_field.Tie as tie
 
 enum-known-token : tie.Need-enum-known-token
 enum-known-token c = search needs
@@ -22,6 +22,6 @@ same-length c = search needs
 returns-2 : tie.Need-returns-2
 returns-2 c = rw (c .before .before .before .before .before .token .given .1) (c .before .before .put-held .ensures)
 
-pub put-token-spec : {M : Type 1} → statement M
-put-token-spec =
+pub put-token-field-spec : {M : Type 1} → statement M
+put-token-field-spec =
     tie.close (tie.spec enum-known-token enum-told returns put-held-requires same-length returns-2)
