@@ -3,7 +3,7 @@
 use Prim.Native.Nat.{ℕ}
 use mathlib.Core.Path.{_≡_, refl}
 use mathlib.Core.List.{List, [], _∷_, _++_}
-use lib.ListN.{take, set}
+use lib.ListN.{take, drop, set}
 use Rattle.rules.specs.declared.held.HeldSlot.{HeldSlot}
 use Rattle.rules.specs.declared.held.HeldSlot.the-variants.{NoSlot, OneSlot}
 use Rattle.rules.specs.declared.held.HeldToken.{HeldToken}
@@ -15,10 +15,10 @@ use Rattle.record.specs.Walk.{look, taken, step, ended, walkFrom}
 use Rattle.record.specs.Dateless.{recordOf}
 use Rattle.record.specs.Reading.{walked}
 
--- station 0 with this value tells station 1, both clocks 1
+-- station 0 with this value tells station 1, with source clock 1 and destination clock 2
 abbrev told : ℕ → HeldSlot → HeldToken → List ℕ
 told value slot token =
-    recordOf (record { from = 0; to = 1; value = value; source = record { 0 = 1 }; destination = record { 0 = 1 }; slot = slot; token = token })
+    recordOf (record { from = 0; to = 1; value = value; source = record { 0 = 1 }; destination = record { 0 = 2 }; slot = slot; token = token })
 
 abbrev slot : ℕ → ℕ → HeldSlot
 slot destination quantity = OneSlot (record { source = record { 0 = 9 }; destination = record { 0 = destination }; quantity = quantity })
@@ -31,10 +31,10 @@ abbrev bare : List ℕ
 bare = told 10 NoSlot NoToken
 
 abbrev asking : List ℕ
-asking = told 10 (slot 0 1) NoToken
+asking = told 10 (slot 1 1) NoToken
 
 abbrev full : List ℕ
-full = told 10 (slot 0 1) (token 0 0)
+full = told 10 (slot 1 1) (token 0 0)
 
 pub record Reads : Type 0 where
   pub bytes : List ℕ
@@ -56,10 +56,14 @@ places =
     ∷ reads (take 3 bare) cut 3
     ∷ reads (take 4 bare) cut 4
     ∷ reads (take 18 bare) cut 18
+    ∷ reads (take 19 bare) cut 19
     ∷ reads (take 48 asking) cut 48
     ∷ reads (bare ++ (7 ∷ [])) cut 31
     ∷ reads (bare ++ (7 ∷ 0 ∷ [])) cut 32
     -- another tag, where a field must be and where none may be
+    ∷ reads (drop 4 bare) otherTag 0
+    ∷ reads (take 4 bare ++ drop 8 bare) otherTag 4
+    ∷ reads (take 8 bare ++ drop 19 bare) otherTag 8
     ∷ reads (set bare 0 2) otherTag 0
     ∷ reads (bare ++ (7 ∷ 0 ∷ 0 ∷ [])) otherTag 30
     ∷ reads (asking ++ (5 ∷ 0 ∷ 16 ∷ [])) otherTag 49
@@ -76,7 +80,7 @@ places =
     ∷ reads (set bare 22 256) unsoundNumber 19
     ∷ reads (set bare 26 256) unsoundNumber 19
     ∷ reads (told 10 (slot 0 0) NoToken) unsoundNumber 30
-    ∷ reads (told 10 (slot 1 1) NoToken) unsoundNumber 30
+    ∷ reads (told 10 (slot 2 1) NoToken) unsoundNumber 30
     ∷ reads (told 10 (slot 0 16000000001) (token 1 1)) unsoundNumber 30
     ∷ reads (told 10 NoSlot (token 1 1)) unsoundNumber 30
     ∷ reads (told 10 (slot 0 1) (token 0 16000000001)) unsoundNumber 49

@@ -21,6 +21,13 @@ pub reads-otherwise : walk (may ∷ may ∷ []) (bytesOf (may ∷ may ∷ []) (m
 unfolding bytesOf big numberAt look taken step ended walkFrom
 reads-otherwise = refl
 
+-- so too behind another that may be missing, but not behind one that must be there
+pub past-a-may : clear (may ∷ optional 9 (1 ∷ []) (λ before n. true) ∷ may ∷ []) ≡ false
+past-a-may = refl
+
+pub past-a-must : clear (may ∷ required 9 (1 ∷ []) (λ before n. true) ∷ may ∷ []) ≡ true
+past-a-must = refl
+
 -- where the first must be there it is clear, and so is a table whose tags fall
 pub first-must : clear (must ∷ may ∷ []) ≡ true
 first-must = refl
