@@ -8,7 +8,6 @@ use Rattle.rules.specs.declared.held.HeldSlot.{HeldSlot}
 use Rattle.rules.specs.declared.held.HeldSlot.the-variants.{NoSlot, OneSlot}
 use Rattle.rules.specs.declared.held.HeldToken.{HeldToken}
 use Rattle.rules.specs.declared.held.HeldToken.the-variants.{NoToken, OneToken}
-use Rattle.record.specs.Faults.{cut, otherTag, otherLength, unsoundNumber, extra}
 use Rattle.record.specs.Numbers.{big, numberAt}
 use Rattle.record.specs.Fields.{bytesOf}
 use Rattle.record.specs.Walk.{look, taken, step, ended, walkFrom}
@@ -51,41 +50,41 @@ places =
     ∷ reads asking 0 49
     ∷ reads full 0 68
     -- cut: before a field, in its head, in its body
-    ∷ reads [] cut 0
-    ∷ reads (take 2 bare) cut 2
-    ∷ reads (take 3 bare) cut 3
-    ∷ reads (take 4 bare) cut 4
-    ∷ reads (take 18 bare) cut 18
-    ∷ reads (take 19 bare) cut 19
-    ∷ reads (take 48 asking) cut 48
-    ∷ reads (bare ++ (7 ∷ [])) cut 31
-    ∷ reads (bare ++ (7 ∷ 0 ∷ [])) cut 32
+    ∷ reads [] 20 0
+    ∷ reads (take 2 bare) 20 2
+    ∷ reads (take 3 bare) 20 3
+    ∷ reads (take 4 bare) 20 4
+    ∷ reads (take 18 bare) 20 18
+    ∷ reads (take 19 bare) 20 19
+    ∷ reads (take 48 asking) 20 48
+    ∷ reads (bare ++ (7 ∷ [])) 20 31
+    ∷ reads (bare ++ (7 ∷ 0 ∷ [])) 20 32
     -- another tag, where a field must be and where none may be
-    ∷ reads (drop 4 bare) otherTag 0
-    ∷ reads (take 4 bare ++ drop 8 bare) otherTag 4
-    ∷ reads (take 8 bare ++ drop 19 bare) otherTag 8
-    ∷ reads (set bare 0 2) otherTag 0
-    ∷ reads (bare ++ (7 ∷ 0 ∷ 0 ∷ [])) otherTag 30
-    ∷ reads (asking ++ (5 ∷ 0 ∷ 16 ∷ [])) otherTag 49
+    ∷ reads (drop 4 bare) 21 0
+    ∷ reads (take 4 bare ++ drop 8 bare) 21 4
+    ∷ reads (take 8 bare ++ drop 19 bare) 21 8
+    ∷ reads (set bare 0 2) 21 0
+    ∷ reads (bare ++ (7 ∷ 0 ∷ 0 ∷ [])) 21 30
+    ∷ reads (asking ++ (5 ∷ 0 ∷ 16 ∷ [])) 21 49
     -- another length, before the cut that it would be
-    ∷ reads (set bare 2 2) otherLength 0
-    ∷ reads (take 3 (set bare 1 1)) otherLength 0
-    ∷ reads (bare ++ (6 ∷ 0 ∷ 17 ∷ [])) otherLength 30
+    ∷ reads (set bare 2 2) 22 0
+    ∷ reads (take 3 (set bare 1 1)) 22 0
+    ∷ reads (bare ++ (6 ∷ 0 ∷ 17 ∷ [])) 22 30
     -- a number that is not sound, before what is wrong behind it
-    ∷ reads (set bare 3 16) unsoundNumber 0
-    ∷ reads (take 4 (set bare 3 16)) unsoundNumber 0
-    ∷ reads (set bare 7 16) unsoundNumber 4
-    ∷ reads (set bare 7 0) unsoundNumber 4
-    ∷ reads (told 16000000001 NoSlot NoToken) unsoundNumber 8
-    ∷ reads (set bare 22 256) unsoundNumber 19
-    ∷ reads (set bare 26 256) unsoundNumber 19
-    ∷ reads (told 10 (slot 0 0) NoToken) unsoundNumber 30
-    ∷ reads (told 10 (slot 2 1) NoToken) unsoundNumber 30
-    ∷ reads (told 10 (slot 0 16000000001) (token 1 1)) unsoundNumber 30
-    ∷ reads (told 10 NoSlot (token 1 1)) unsoundNumber 30
-    ∷ reads (told 10 (slot 0 1) (token 0 16000000001)) unsoundNumber 49
+    ∷ reads (set bare 3 16) 23 0
+    ∷ reads (take 4 (set bare 3 16)) 23 0
+    ∷ reads (set bare 7 16) 23 4
+    ∷ reads (set bare 7 0) 23 4
+    ∷ reads (told 16000000001 NoSlot NoToken) 23 8
+    ∷ reads (set bare 22 256) 23 19
+    ∷ reads (set bare 26 256) 23 19
+    ∷ reads (told 10 (slot 0 0) NoToken) 23 30
+    ∷ reads (told 10 (slot 2 1) NoToken) 23 30
+    ∷ reads (told 10 (slot 0 16000000001) (token 1 1)) 23 30
+    ∷ reads (told 10 NoSlot (token 1 1)) 23 30
+    ∷ reads (told 10 (slot 0 1) (token 0 16000000001)) 23 49
     -- more, once the last field stands
-    ∷ reads (full ++ (0 ∷ [])) extra 68
+    ∷ reads (full ++ (0 ∷ [])) 24 68
     ∷ []
 
 abbrev found : List Reads → List Reads
