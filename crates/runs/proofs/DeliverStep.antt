@@ -54,6 +54,6 @@ module _ {t : Table} {H : List (Entry ℕ)} {plus minus : ℕ} (r : Reached t H 
       (plain-first (not (ltb p mostPlaces)) 7 _ (plain 7 refl)
       (λ h. plain-first (isEmpty (waitingAt t p)) 8 _ (plain 8 refl) (λ e. fits (here h) (waitingAt t p) refl))))
       (λ z.
-      let one = passed (not (tableSound t)) 0 z in
-      let two = passed (not (ltb p mostPlaces)) 6 (one .1) in
+      let one = passed (not (tableSound t)) _ z in
+      let two = passed (not (ltb p mostPlaces)) _ (one .1) in
       taken (here (two .0)) (waitingAt t p) refl (two .1))

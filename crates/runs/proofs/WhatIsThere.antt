@@ -41,8 +41,8 @@ refusal t k amount = cond (not (tableSound t)) 1 (cond (not (ltb k (t .count))) 
 
 at-station : (t : Table) (k amount : ℕ) → refusal t k amount ≡ 0 → k < t .count
 at-station t k amount z =
-    let one = passed (not (tableSound t)) 0 z in
-    ltb-true k (t .count) (not-false _ (passed (not (ltb k (t .count))) 1 (one .1) .0))
+    let one = passed (not (tableSound t)) _ z in
+    ltb-true k (t .count) (not-false _ (passed (not (ltb k (t .count))) _ (one .1) .0))
 
 module _ {t : Table} {H : List (Entry ℕ)} {plus minus : ℕ} (r : Reached t H plus minus) where
   draws-go : (k amount : ℕ) → StepGoes t (Draw k amount) H (whatIsThere t (Draw k amount))

@@ -136,7 +136,7 @@ module _ (t : Table) (sound : tableSound t ≡ true) where
   send-message : (from to p : ℕ) → sendAnswer from to (t .count) p ≡ 0 → let l = lookedAt from to in
       messageBy from to (sideFor (stationAt t (l .station)) (l .peer)) ≡ messageFor (stationAt t from) to
   send-message from to p e =
-      let one = passed (not (ltb from (t .count) && ltb to (t .count))) 1 e in
+      let one = passed (not (ltb from (t .count) && ltb to (t .count))) _ e in
       let ends = both-hold (ltb from (t .count)) (ltb to (t .count)) (not-false _ (one .0)) in
       let h = ltb-true from (t .count) (ends .0) in
       let g = ltb-true to (t .count) (ends .1) in
