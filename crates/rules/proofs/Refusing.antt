@@ -14,7 +14,7 @@ use Rattle.ground.specs.Limits.{mostAmount, mostIntake, mostValue}
 use Rattle.ground.specs.Answers.{notSound, badAmount, tooFew}
 use Rattle.ground.specs.Refusals.{answerOf}
 use Rattle.rules.specs.Rules.{fill}
-use Rattle.rules.specs.Taking.{tokenSmall, messageSmall, tokenFits, takeOf, takeRefusals, takeAnswer, takenOf, Takes}
+use Rattle.rules.specs.Taking.{tokenSmall, messageSmall, TokenInRange, fiveRules, takeRefusals, takeAnswer, takenOf, Takes}
 use Rattle.rules.specs.Stock.{stockSound, amountSound, addToRefusals, addToAnswer, addDone, addedTo, drawFromRefusals, drawFromAnswer, drawDone, drawnFrom, refusedStock}
 use Rattle.ground.proofs.Tests.{both-hold}
 use Rattle.ground.proofs.Refusing.{passed}
@@ -53,14 +53,14 @@ module _ (value intake amount : ℕ) where
 
 -- what was taken tells the answer that was found
 pub take-tells : (x : Side) (m : Message) → takenOf x m .answer ≡ answerOf (takeRefusals x m)
-unfolding takenOf takeOf
-take-tells x m = answer-told (λ (t : Taken). t .answer) (takeAnswer x m) (takeOf x m) _ refl refl
+unfolding takenOf fiveRules
+take-tells x m = answer-told (λ (t : Taken). t .answer) (takeAnswer x m) (fiveRules x m) _ refl refl
 
-pub take-done : (x : Side) (m : Message) → takeAnswer x m ≡ 0 → takenOf x m ≡ takeOf x m
+pub take-done : (x : Side) (m : Message) → takeAnswer x m ≡ 0 → takenOf x m ≡ fiveRules x m
 unfolding takenOf
-take-done x m e = sym (when-done (takeOf x m) _ e)
+take-done x m e = sym (when-done (fiveRules x m) _ e)
 
-pub small-fits : (h : HeldToken) → tokenSmall h ≡ true → tokenFits h
+pub small-fits : (h : HeldToken) → tokenSmall h ≡ true → TokenInRange h
 small-fits NoToken e = tt
 small-fits (OneToken t) e = leb-true _ _ e
 

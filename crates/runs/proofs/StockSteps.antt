@@ -17,7 +17,7 @@ use Rattle.station.specs.declared.station.Station.{Station}
 use Rattle.station.specs.Steps.{putStock}
 use Rattle.table.specs.Table.{stationAt, putStation}
 use Rattle.table.specs.Sound.{tableSound}
-use Rattle.steps.specs.Steps.{drawn, stepRefusals, stepDone, stepOf}
+use Rattle.steps.specs.Steps.{drawStep, stepRefusals, stepDone, stepOf}
 use Rattle.steps.specs.declared.asked.Step.the-variants.{Add, Draw}
 use Rattle.table.specs.declared.table.Table.{Table}
 use Rattle.table.proofs.Sums.{station-sound}
@@ -57,7 +57,7 @@ module _ {t : Table} {H : List (Entry ℕ)} {plus minus : ℕ} (r : Reached t H 
       record { goes = stock-goes r k (s .value + amount) (s .intake + amount) amount 0 (below k (two .0)) (omega arith) refl; answer = plain 0 refl })
 
   -- a draw that is done took what was there
-  pub taken-goes : (k amount taken : ℕ) → k < t .count → taken ≤ stationAt t k .value → StepGoes t (Draw k amount) H (drawn t k taken (stationAt t k))
+  pub taken-goes : (k amount taken : ℕ) → k < t .count → taken ≤ stationAt t k .value → StepGoes t (Draw k amount) H (drawStep t k taken (stationAt t k))
   taken-goes k amount taken h there =
       let s = stationAt t k in
       record { goes = stock-goes r k (s .value - taken) (s .intake) 0 taken h (omega (arith, there)) (omega arith); answer = plain 0 refl }

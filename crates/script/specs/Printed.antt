@@ -9,18 +9,18 @@ use Rattle.ground.specs.Choice.{ifDone}
 use Rattle.script.specs.declared.filling.Filled.{Filled}
 use Rattle.script.specs.declared.starting.Run.{Run}
 use Rattle.script.specs.Starting.{answerLine, startedOf}
-use Rattle.script.specs.Filling.{Fills, turnOf}
+use Rattle.script.specs.Filling.{PutsLines, pieceOf}
 
 -- the bytes that so many turns put into a buffer of this room, each behind those before it, and the
 -- run that they leave
 unfoldable pub putIn : ℕ → ℕ → List ℕ → Run → List ℕ
 putIn zero room script run = []
 putIn (suc turns) room script run =
-    cond (run .finished) [] (let turn = turnOf script run room in turn .bytes ++ putIn turns room script (turn .run))
+    cond (run .finished) [] (let turn = pieceOf script run room in turn .bytes ++ putIn turns room script (turn .run))
 
 unfoldable pub runIn : ℕ → ℕ → List ℕ → Run → Run
 runIn zero room script run = run
-runIn (suc turns) room script run = cond (run .finished) run (runIn turns room script (turnOf script run room .run))
+runIn (suc turns) room script run = cond (run .finished) run (runIn turns room script (pieceOf script run room .run))
 
 -- a refused script puts the line of its answer, and any other its turns
 abbrev pub printedIn : ℕ → ℕ → List ℕ → List ℕ
@@ -36,5 +36,5 @@ mostTurns = 65537
 pub data Loops (script : List ℕ) (room : ℕ) : ℕ → Run → List ℕ → Run → Type 0 where
   used-up : {run : Run} → Loops script room 0 run [] run
   ended : {turns : ℕ} {run : Run} → run .finished ≡ true → Loops script room (suc turns) run [] run
-  turned : {turns : ℕ} {run last : Run} {r : Filled} {out later rest : List ℕ} → run .finished ≡ false → length out ≡ room → Fills script run out r later
+  turned : {turns : ℕ} {run last : Run} {r : Filled} {out later rest : List ℕ} → run .finished ≡ false → length out ≡ room → PutsLines script run out r later
       → Loops script room turns (r .run) rest last → Loops script room (suc turns) run (take (r .result) later ++ rest) last

@@ -10,7 +10,7 @@ use Rattle.rules.specs.Report.{noReport}
 use Rattle.ground.specs.Refusals.{answerOf}
 use Rattle.rules.specs.Stock.{amountSound}
 use Rattle.rules.specs.Rules.{fill}
-use Rattle.rules.specs.Taking.{takeOf}
+use Rattle.rules.specs.Taking.{fiveRules}
 use Rattle.ground.proofs.Tests.{both-hold}
 use Rattle.ground.proofs.Refusing.{passed}
 use Rattle.ground.proofs.Choices.{answer-told}
@@ -105,7 +105,7 @@ draw-tells s amount = answer-told (λ (o : Outcome). o .answer) (drawAnswer s am
 
 pub receive-tells : (s : Station) (m : Message) → receiveOf s m .answer ≡ answerOf (receiveRefusals s m)
 unfolding receiveOf
-receive-tells s m = answer-told (λ (o : Outcome). o .answer) (receiveAnswer s m) (take-in s m (takeOf (sideFor s (m .from)) m)) _ refl refl
+receive-tells s m = answer-told (λ (o : Outcome). o .answer) (receiveAnswer s m) (take-in s m (fiveRules (sideFor s (m .from)) m)) _ refl refl
 
 pub show-tells : (s : Station) (to : ℕ) → showOf s to .answer ≡ answerOf (showRefusals s to)
 unfolding showOf

@@ -26,7 +26,7 @@ use Rattle.pool.specs.Pool.{mostPlaces, isEmpty, lowestEmpty}
 use Rattle.table.specs.Table.{stationAt, waitingAt, putStation}
 use Rattle.table.specs.Sound.{placeSound, tableSound}
 use Rattle.table.specs.Stepped.{answeredStep}
-use Rattle.steps.specs.Steps.{delivered, overfills, stepRefusals, stepDone, stepOf}
+use Rattle.steps.specs.Steps.{deliverStep, overfills, stepRefusals, stepDone, stepOf}
 use Rattle.steps.specs.Running.{askedStep}
 use Rattle.table.proofs.Tables.{Waits, SoundTable, table-parts, table-whole, waits}
 use Rattle.table.proofs.Puts.{seat-of, moved, place-whole, put-station, put-place}
@@ -72,7 +72,7 @@ module _ {t : Table} (w : SoundTable t) where
         e,
       )
 
-  taken-seated : (m : Message) → Waits m (t .count) → overfills t (One m) ≡ false → SoundTable (delivered t (One m) .table)
+  taken-seated : (m : Message) → Waits m (t .count) → overfills t (One m) ≡ false → SoundTable (deliverStep t (One m) .table)
   unfolding receiveOf
   taken-seated m there e =
       let s = stationAt t (m .to) in
@@ -114,7 +114,7 @@ module _ {t : Table} (w : SoundTable t) where
     where
       by : (v : Waiting) → placeSound v (t .count) ≡ true
           → answerOf (when (isEmpty v) 8 ∷ when (overfills t v) 10 ∷ []) ≡ 0
-          → SoundTable (delivered t v .table)
+          → SoundTable (deliverStep t v .table)
       by Empty s z = w
       by (One m) s z = taken-seated m (waits m (t .count) s) (passed (overfills t (One m)) _ z .0)
   done-keeps (Lose p) e = put-place p Empty w refl
