@@ -49,7 +49,7 @@ use Rattle.table.specs.Table.{waitingAt}
 use Rattle.table.specs.Stepped.{answeredStep}
 use Rattle.steps.specs.Steps.{deliverStep, stepRefusals, stepDone, stepOf}
 use Rattle.table.specs.Way.{sumRefusals, onTheWay, atStations}
-use Rattle.script.proofs.Refused.{answer-refused, fill-refused, start-refused}
+use Rattle.script.proofs.Refused.{answer-refused, put-lines-refused, start-refused}
 use Rattle.demands.specs.Demand1.{noStation, noTable, RefusedSide, RefusedStock, RefusedAs, RefusedAsTable, RefusedRan, RefusedSum, Refused, RefusedNumbers, RefusedTold, Demand1}
 
 -- a side and a stock: an answer that is not 0 makes a refusal of anything done
@@ -199,5 +199,5 @@ demand1 =
       pool·lose-value = λ pool p. in-pool (loseInAnswer pool p) _ pool _;
       script·start = start-refused;
       script·put-answer = λ answer out r out′ p. answer-refused answer out p;
-      script·fill = λ script run out r out′ p. fill-refused script run out p;
+      script·put-lines = λ script run out r out′ p. put-lines-refused script run out p;
     }

@@ -21,7 +21,7 @@ use Rattle.steps.specs.Steps.{stepOf}
 use Rattle.script.specs.Words.{numeralOf}
 use Rattle.script.specs.Lines.{stationsOf}
 use Rattle.script.specs.Starting.{startedOf}
-use Rattle.script.specs.Filling.{pieceOf}
+use Rattle.script.specs.Putting.{pieceOf}
 use Rattle.demands.specs.Done.{doneAnswers}
 
 pub all-done : doneAnswers ≡ replicate (length doneAnswers) 0

@@ -30,7 +30,7 @@ use Rattle.script.specs.Script.{stationLines}
 use Rattle.script.specs.Reading.{linesFrom, pastLines}
 use Rattle.script.specs.Telling.{linesOfSteps}
 use Rattle.script.specs.Starting.{startedOf}
-use Rattle.script.specs.Filling.{pieceOf}
+use Rattle.script.specs.Putting.{pieceOf}
 use Rattle.demands.specs.WrongGround.{wrongGround}
 use Rattle.demands.specs.WrongRules.{wrongRules}
 use Rattle.demands.specs.WrongTables.{wrongTables}

@@ -17,7 +17,7 @@ use Rattle.pool.specs.Lent.{sendInTold, loseInTold}
 use Rattle.steps.specs.Running.{ranOf}
 use Rattle.steps.specs.Steps.{stepOf}
 use Rattle.table.specs.Way.{wayAsked, stationsAsked}
-use Rattle.script.specs.Filling.{pieceOf}
+use Rattle.script.specs.Putting.{pieceOf}
 use Rattle.script.specs.Starting.{putAnswerOf, startedOf}
 use Rattle.demands.specs.Wrong.{hasThree, gave, asked, pays}
 use Rattle.demands.specs.WrongRules.{waitingForFive}
@@ -78,6 +78,6 @@ doneAnswers =
     ∷ startedOf opening .answer
     -- put_answer
     ∷ putAnswerOf 13 (replicate 64 0) .answer
-    -- fill
+    -- put_lines
     ∷ pieceOf opening (startedOf opening .run) 2048 .answer
     ∷ []

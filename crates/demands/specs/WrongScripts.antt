@@ -3,7 +3,7 @@ use Prim.Native.Nat.{ℕ}
 use mathlib.Core.List.{List, [], _∷_, _++_, replicate}
 use Rattle.script.specs.Lines.{wordStations, wordLose, wordAdd}
 use Rattle.script.specs.Starting.{answerBytes, putAnswerOf, startedOf}
-use Rattle.script.specs.Filling.{pieceOf}
+use Rattle.script.specs.Putting.{pieceOf}
 use Rattle.demands.specs.Wrong.{Wrong}
 
 -- `stations 2`, the same with a line `lose 5` behind it, and with a line `add` that cannot be read
@@ -24,7 +24,7 @@ wrongScripts =
     -- put_answer: cuts the line to the room that there is; tells the room as the result
     ∷ record { promised = answerBytes 13 (0 ∷ 0 ∷ []); wrong = 48 ∷ 32 ∷ [] }
     ∷ record { promised = putAnswerOf 12 (replicate 64 0) .result ∷ []; wrong = 64 ∷ [] }
-    -- fill: does a line that cannot be read; stops inside a line; never puts the closing lines
+    -- put_lines: does a line that cannot be read; stops inside a line; never puts the closing lines
     ∷ record { promised = pieceOf unread (startedOf unread .run) 2048 .bytes; wrong = 49 ∷ 32 ∷ 48 ∷ 32 ∷ 48 ∷ 10 ∷ [] }
     ∷ record { promised = pieceOf losing (startedOf losing .run) 2048 .run .at ∷ []; wrong = 17 ∷ [] }
     ∷ record { promised = pieceOf opening (startedOf opening .run) 2048 .bytes; wrong = [] }

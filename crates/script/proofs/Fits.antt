@@ -14,7 +14,7 @@ use Rattle.steps.specs.Running.{askedStep}
 use Rattle.table.specs.Sound.{tableSound}
 use Rattle.table.specs.Way.{atStations, onTheWay}
 use Rattle.table.proofs.Tables.{table-parts}
-use Rattle.script.specs.declared.filling.Filled.{Filled}
+use Rattle.script.specs.declared.putting.PutLines.{PutLines}
 use Rattle.script.specs.declared.starting.Put.{Put}
 use Rattle.script.specs.declared.starting.Run.{Run}
 use Rattle.script.specs.Decimal.{totalLine, wayLine}
@@ -23,7 +23,7 @@ use Rattle.script.specs.Closing.{closingRoom}
 use Rattle.script.specs.Reading.{linesFrom}
 use Rattle.script.specs.Telling.{linesOfSteps}
 use Rattle.script.specs.Starting.{answerLine, PutsAnswer, stepRoom}
-use Rattle.script.specs.Filling.{atOnce, PutsLines, runSound, pieceOf}
+use Rattle.script.specs.Putting.{atOnce, PutsLines, runSound, pieceOf}
 use Rattle.script.proofs.Lengths.{length-says, length-total, length-way}
 use Rattle.script.proofs.Puts.{put-first}
 use Rattle.script.proofs.Closings.{length-stations}
@@ -71,12 +71,12 @@ module _ (script : List ℕ) (run : Run) (room : ℕ) where
   pub turn-fits : length (pieceOf script run room .bytes) ≤ room
   turn-fits = by-sound (runSound run) refl
 
--- the first bytes of a buffer that was filled, and of one that the line of a refused script was put
--- into
-pub filled-first : (script : List ℕ) (run : Run) (out : List ℕ) {r : Filled} {later : List ℕ} → PutsLines script run out r later → take (r .result) later ≡ pieceOf script run (length out) .bytes
-filled-first script run out f =
+-- the first bytes of a buffer that lines were put into, and of one that the line of a refused
+-- script was put into
+pub put-lines-first : (script : List ℕ) (run : Run) (out : List ℕ) {r : PutLines} {later : List ℕ} → PutsLines script run out r later → take (r .result) later ≡ pieceOf script run (length out) .bytes
+put-lines-first script run out f =
     let turn = pieceOf script run (length out) in
-    rw (f .filled, f .lent) (put-first out (turn .bytes) (length (turn .bytes)) refl (turn-fits script run (length out)))
+    rw (f .put, f .lent) (put-first out (turn .bytes) (length (turn .bytes)) refl (turn-fits script run (length out)))
 
 pub answer-first : (answer : ℕ) (out : List ℕ) {r : Put} {later : List ℕ} → stepRoom ≤ length out → PutsAnswer answer out r later → take (r .result) later ≡ answerLine answer
 answer-first answer out h p =

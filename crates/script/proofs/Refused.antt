@@ -6,13 +6,13 @@ use mathlib.Core.List.{List, []}
 use mathlib.Core.Logic.{⊎-elim}
 use borrow.Author.Tests.{le-ltb, lt-ltb}
 use lib.ListN.{length}
-use Rattle.script.specs.declared.filling.Filled.{Filled}
+use Rattle.script.specs.declared.putting.PutLines.{PutLines}
 use Rattle.script.specs.declared.starting.Put.{Put}
 use Rattle.script.specs.declared.starting.Run.{Run}
 use Rattle.script.specs.declared.starting.Started.{Started}
 use Rattle.script.specs.Closing.{closingRoom}
 use Rattle.script.specs.Starting.{notStarted, PutsAnswer, startedOf, stepRoom}
-use Rattle.script.specs.Filling.{PutsLines, runSound, OutputPiece, pieceOf}
+use Rattle.script.specs.Putting.{PutsLines, runSound, OutputPiece, pieceOf}
 use Rattle.ground.proofs.Tests.{below-or-not}
 use Rattle.script.proofs.Starts.{begun, Begun, going, refused}
 use Rattle.script.proofs.Turns.{turn-closes, turn-finished, turn-short, turn-steps, turn-unsound}
@@ -55,7 +55,7 @@ module _ (script : List ℕ) (run : Run) (room : ℕ) where
       (below-or-not room closingRoom)
   by-sound false e f = rw (turn-unsound script run room e) (refl, refl)
 
-pub fill-refused : (script : List ℕ) (run : Run) (out : List ℕ) {r : Filled} {later : List ℕ} → PutsLines script run out r later → (r .answer ≡ 0 → ⊥) → (r .result ≡ 0) × (r .run ≡ run) × (later ≡ out)
-fill-refused script run out p f =
-    let none = by-sound script run (length out) (runSound run) refl (λ z. f (ap (λ (r : Filled). r .answer) (p .filled) ∙ z)) in
-    rw (p .filled, p .lent, none .0, none .1) (refl, refl, refl)
+pub put-lines-refused : (script : List ℕ) (run : Run) (out : List ℕ) {r : PutLines} {later : List ℕ} → PutsLines script run out r later → (r .answer ≡ 0 → ⊥) → (r .result ≡ 0) × (r .run ≡ run) × (later ≡ out)
+put-lines-refused script run out p f =
+    let none = by-sound script run (length out) (runSound run) refl (λ z. f (ap (λ (r : PutLines). r .answer) (p .put) ∙ z)) in
+    rw (p .put, p .lent, none .0, none .1) (refl, refl, refl)

@@ -17,13 +17,13 @@ use Rattle.table.specs.Sound.{tableSound}
 use Rattle.steps.specs.Running.{askedIn, askedOf, askedStep, leftBy, ranOf, Runs, stepsIn, allTold, toldInRun}
 use Rattle.script.specs.declared.reading.Read.{Read}
 use Rattle.script.specs.declared.starting.Run.{Run}
-use Rattle.script.specs.declared.filling.Filled.{Filled}
+use Rattle.script.specs.declared.putting.PutLines.{PutLines}
 use Rattle.script.specs.Script.{mostBytes}
 use Rattle.script.specs.Closing.{closingRoom}
 use Rattle.script.specs.Reading.{linesFrom, numbersForAll, pastLines, linesRead}
 use Rattle.script.specs.Telling.{linesOfSteps, linesOfTold}
 use Rattle.script.specs.Starting.{stepRoom}
-use Rattle.script.specs.Filling.{atOnce, closingPiece, pieceTold, PutsLines, mostAtOnce, runSound, stepsPiece, emptyPiece, OutputPiece, pieceOf}
+use Rattle.script.specs.Putting.{atOnce, closingPiece, pieceTold, PutsLines, mostAtOnce, runSound, stepsPiece, emptyPiece, OutputPiece, pieceOf}
 use Rattle.script.proofs.Readings.{length-numbers, lines-few, numbers-asked}
 use Rattle.script.proofs.Puts.{put-first}
 use Rattle.script.proofs.Tells.{said-told}
@@ -119,5 +119,5 @@ module _ (script : List ℕ) (run : Run) (room : ℕ) where
         unfolding pieceOf
         turn-closes h = rw (e, le-ltb room closingRoom wide, f, le-ltb (run .at) (length script) h)
 
-pub fills-by : (script : List ℕ) (run : Run) (out : List ℕ) {turn : OutputPiece} {r : Filled} {later : List ℕ} → pieceOf script run (length out) ≡ turn → r ≡ pieceTold turn → later ≡ sets out 0 (turn .bytes) → PutsLines script run out r later
-fills-by script run out e f g = record { filled = rw e f; lent = rw e g }
+pub puts-lines-by : (script : List ℕ) (run : Run) (out : List ℕ) {turn : OutputPiece} {r : PutLines} {later : List ℕ} → pieceOf script run (length out) ≡ turn → r ≡ pieceTold turn → later ≡ sets out 0 (turn .bytes) → PutsLines script run out r later
+puts-lines-by script run out e f g = record { put = rw e f; lent = rw e g }

@@ -20,7 +20,7 @@ use Rattle.script.specs.Script.{mostBytes, outputOf}
 use Rattle.script.specs.Closing.{closingRoom}
 use Rattle.script.specs.Reading.{linesFrom, pastLines}
 use Rattle.script.specs.Starting.{notStarted, startedOf, answerLine}
-use Rattle.script.specs.Filling.{atOnce, closingPiece, runSound, stepsPiece}
+use Rattle.script.specs.Putting.{atOnce, closingPiece, runSound, stepsPiece}
 use Rattle.script.specs.Printed.{mostTurns, printedIn, putIn, runIn}
 use Rattle.ground.proofs.Tests.{below-or-not}
 use Rattle.ground.specs.Choice.{ifDone}

@@ -1,4 +1,5 @@
--- What a turn of filling a lent buffer puts, and the run that it leaves.
+-- What is put into a lent buffer at a time, a piece of a script's output, and the run that it
+-- leaves.
 use Prim.Native.Nat.{ℕ, _+_, _/_, min}
 use mathlib.Core.Path.{_≡_}
 use mathlib.Core.Bool.{Bool, true, false, cond, not, _&&_}
@@ -11,7 +12,7 @@ use Rattle.ground.specs.Refusals.{Refusal, when}
 use Rattle.table.specs.Sound.{tableSound}
 use Rattle.steps.specs.Running.{leftBy}
 use Rattle.script.specs.declared.starting.Run.{Run}
-use Rattle.script.specs.declared.filling.Filled.{Filled}
+use Rattle.script.specs.declared.putting.PutLines.{PutLines}
 use Rattle.script.specs.Script.{mostBytes, closing}
 use Rattle.script.specs.Closing.{closingRoom}
 use Rattle.script.specs.Reading.{linesFrom, pastLines}
@@ -64,10 +65,10 @@ pieceOf script run room =
     (cond (run .finished) (emptyPiece done run)
     (cond (ltb (run .at) (length script)) (stepsPiece script run (atOnce room)) (closingPiece run))))
 
-abbrev pub pieceTold : OutputPiece → Filled
-pieceTold turn = record { answer = turn .answer; result = length (turn .bytes); run = turn .run }
+abbrev pub pieceTold : OutputPiece → PutLines
+pieceTold piece = record { answer = piece .answer; result = length (piece .bytes); run = piece .run }
 
 -- the first bytes of the buffer are those put, and every byte behind them is as it was
-pub record PutsLines (script : List ℕ) (run : Run) (out : List ℕ) (r : Filled) (later : List ℕ) : Type 0 where
-  pub filled : r ≡ pieceTold (pieceOf script run (length out))
+pub record PutsLines (script : List ℕ) (run : Run) (out : List ℕ) (r : PutLines) (later : List ℕ) : Type 0 where
+  pub put : r ≡ pieceTold (pieceOf script run (length out))
   pub lent : later ≡ sets out 0 (pieceOf script run (length out) .bytes)
