@@ -89,7 +89,7 @@ FILENAME ~ /rules\/specs\/Report\.antt$/ && /^rulesOf r/ {
     sub(/^rulesOf r = /, "", rest)
     n = split(rest, term, / \+ /)
     for (i = 1; i <= n; i++) {
-        if (term[i] !~ ("^weight \\(r \\.rule" i "\\) [0-9]+$")) unread()
+        if (term[i] !~ ("^numberIfActed \\(r \\.rule" i "\\) [0-9]+$")) unread()
         split(term[i], part, " ")
         weight[i] = part[4]
     }

@@ -30,9 +30,9 @@ fn write_turns(input: &[u8], first: Run, out: &mut [u8]) {
     let mut run = first;
     let mut turns: usize = 0;
     while (turns < 65537) & !run.finished {
-        let filled = script::fill(input, run, out);
-        write_first(out, filled.result as usize);
-        run = filled.run;
+        let put = script::put_lines(input, run, out);
+        write_first(out, put.result as usize);
+        run = put.run;
         turns = turns + 1;
     }
 }

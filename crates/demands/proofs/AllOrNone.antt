@@ -34,9 +34,9 @@ stock-draws value intake amount = by (drawFromAnswer value intake amount) refl
     by : (n : ℕ) → drawFromAnswer value intake amount ≡ n
         → let r = stocked n value intake (drawDone value intake amount) in AllOrNone amount (r .answer) (r .result) value (r .value)
     by zero e =
-        let one = passed (not (stockSound value intake)) 0 e in
-        let two = passed (not (amountSound amount)) 3 (one .1) in
-        let there : amount ≤ value = ltb-false _ _ (passed (ltb value amount) 14 (two .1) .0) in
+        let one = passed (not (stockSound value intake)) _ e in
+        let two = passed (not (amountSound amount)) _ (one .1) in
+        let there : amount ≤ value = ltb-false _ _ (passed (ltb value amount) _ (two .1) .0) in
         inl (refl, refl, omega (arith, there))
     by (suc n) e = kept n value
 

@@ -6,7 +6,7 @@ use mathlib.Core.List.{[], _∷_, _++_, map}
 use lib.Dec.{T}
 use Rattle.ground.specs.Below.{allBelow}
 use Rattle.station.specs.Sound.{stationSound, messageSound}
-use Rattle.rules.specs.Taking.{takeOf}
+use Rattle.rules.specs.Taking.{fiveRules}
 use Rattle.station.specs.Steps.{freshOf, addOf, drawOf, showOf, receiveOf}
 use Rattle.record.specs.Numbers.{big, numberAt}
 use Rattle.record.specs.Fields.{bytesOf}
@@ -20,7 +20,7 @@ use Rattle.demands.specs.Cuts.{cuts, cutsTold}
 use Rattle.demands.specs.Wrong.{wrongs, ruledOut}
 
 pub cases-hold : map (λ (c : Case). c .gives) cases ≡ map (λ (c : Case). c .wanted) cases
-unfolding addOf receiveOf takeOf stationSound messageSound allBelow recordOf bytesOf big numberAt look taken step ended walkFrom walked isRecord readOf
+unfolding addOf receiveOf fiveRules stationSound messageSound allBelow recordOf bytesOf big numberAt look taken step ended walkFrom walked isRecord readOf
 cases-hold = refl
 
 -- whatever the 31st byte is
@@ -36,5 +36,5 @@ unfolding recordOf bytesOf big numberAt look taken step ended walkFrom walked is
 cuts-hold = refl
 
 pub wrongs-ruled-out : T (ruledOut wrongs)
-unfolding freshOf addOf drawOf showOf receiveOf receiveBytesOf takeOf stationSound messageSound allBelow recordOf bytesOf big numberAt look taken step ended walkFrom walked isRecord readOf
+unfolding freshOf addOf drawOf showOf receiveOf receiveBytesOf fiveRules stationSound messageSound allBelow recordOf bytesOf big numberAt look taken step ended walkFrom walked isRecord readOf
 wrongs-ruled-out = tt

@@ -20,7 +20,7 @@ use Rattle.ground.specs.Told.{toldWith}
 use Rattle.ground.proofs.Choices.{when-refused}
 use Rattle.rules.specs.Report.{noReport}
 use Rattle.rules.specs.Stock.{stocked, addToAnswer, addedTo, drawFromAnswer, drawnFrom}
-use Rattle.rules.specs.Taking.{takeOf, takeAnswer, refusedTaking, takenOf}
+use Rattle.rules.specs.Taking.{fiveRules, takeAnswer, refusedTaking, takenOf}
 use Rattle.station.specs.Outcome.{answered}
 use Rattle.rules.specs.Message.{noMessage}
 use Rattle.station.specs.Steps.{freshAnswer, addAnswer, drawAnswer, showAnswer, receiveAnswer, messageFor, freshOf, addOf, drawOf, showOf, receiveOf}
@@ -42,14 +42,14 @@ use Rattle.pool.specs.declared.places.Waiting.the-variants.{Empty, One}
 use Rattle.table.specs.declared.stepped.Stepped.{Stepped}
 use Rattle.table.specs.declared.table.Table.{Table}
 use Rattle.table.specs.Sound.{tableSound}
-use Rattle.table.specs.Fresh.{freshRefusals, seatsTo, freshOf as freshTableOf}
+use Rattle.table.specs.Fresh.{freshTableRefusals, seatsTo, freshTableOf}
 use Rattle.pool.specs.Lent.{sendInAnswer, loseInAnswer}
-use Rattle.steps.specs.Running.{ranOf, toldOf as toldByRun}
+use Rattle.steps.specs.Running.{ranOf, toldInRun}
 use Rattle.table.specs.Table.{waitingAt}
 use Rattle.table.specs.Stepped.{answeredStep}
-use Rattle.steps.specs.Steps.{delivered, stepRefusals, stepDone, stepOf}
+use Rattle.steps.specs.Steps.{deliverStep, stepRefusals, stepDone, stepOf}
 use Rattle.table.specs.Way.{sumRefusals, onTheWay, atStations}
-use Rattle.script.proofs.Refused.{answer-refused, fill-refused, start-refused}
+use Rattle.script.proofs.Refused.{answer-refused, put-lines-refused, start-refused}
 use Rattle.demands.specs.Demand1.{noStation, noTable, RefusedSide, RefusedStock, RefusedAs, RefusedAsTable, RefusedRan, RefusedSum, Refused, RefusedNumbers, RefusedTold, Demand1}
 
 -- a side and a stock: an answer that is not 0 makes a refusal of anything done
@@ -110,7 +110,7 @@ at-table : (n : ℕ) (t : Table) (d : Stepped) → d .answer ≡ done → Refuse
 at-table zero t d e f = absurd (f e)
 at-table (suc n) t d e f = (refl, refl, refl)
 
-delivers : (t : Table) (w : Waiting) → delivered t w .answer ≡ done
+delivers : (t : Table) (w : Waiting) → deliverStep t w .answer ≡ done
 delivers t Empty = refl
 delivers t (One m) = refl
 
@@ -127,7 +127,7 @@ steps t step = at-table (answerOf (stepRefusals t step)) t (stepDone t step) (do
 
 makes : (count : ℕ) → RefusedAsTable noTable (freshTableOf count)
 unfolding freshTableOf seatsTo
-makes count = at-table (answerOf (freshRefusals count)) noTable _ refl
+makes count = at-table (answerOf (freshTableRefusals count)) noTable _ refl
 
 no-run : (sound : Bool) (t : Table) (d : Ran) (before later : List ℕ) → d .answer ≡ done
     → RefusedRan t before (cond sound d (record { answer = notSound; result = 0; table = t })) (cond sound later before)
@@ -146,7 +146,7 @@ unfolding checkOf
 checked station f = refl
 
 pub demand1 : Demand1
-unfolding takeOf takenOf addedTo drawnFrom freshOf addOf drawOf receiveOf receiveBytesOf showOf readOf ranOf toldByRun seatsTo freshBy addBy drawBy showBy receiveBy readBy writeBy
+unfolding fiveRules takenOf addedTo drawnFrom freshOf addOf drawOf receiveOf receiveBytesOf showOf readOf ranOf toldInRun seatsTo freshBy addBy drawBy showBy receiveBy readBy writeBy
 demand1 =
     record {
       rules·take = λ x m. at-side (takeAnswer x m) x _ refl;
@@ -199,5 +199,5 @@ demand1 =
       pool·lose-value = λ pool p. in-pool (loseInAnswer pool p) _ pool _;
       script·start = start-refused;
       script·put-answer = λ answer out r out′ p. answer-refused answer out p;
-      script·fill = λ script run out r out′ p. fill-refused script run out p;
+      script·put-lines = λ script run out r out′ p. put-lines-refused script run out p;
     }

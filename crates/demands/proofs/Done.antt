@@ -5,8 +5,8 @@ use Rattle.ground.specs.Sums.{sumBelow}
 use Rattle.ground.specs.Below.{allBelow}
 use Rattle.station.specs.Sound.{stationSound, messageSound}
 use Rattle.rules.specs.Stock.{addedTo, drawnFrom}
-use Rattle.rules.specs.Taking.{takeOf, takenOf}
-use Rattle.station.specs.Steps.{freshOf as freshStation, addOf, drawOf, showOf, receiveOf}
+use Rattle.rules.specs.Taking.{fiveRules, takenOf}
+use Rattle.station.specs.Steps.{freshOf, addOf, drawOf, showOf, receiveOf}
 use Rattle.record.specs.Numbers.{big, numberAt}
 use Rattle.record.specs.Fields.{bytesOf}
 use Rattle.record.specs.Walk.{look, taken, step, ended, walkFrom}
@@ -15,15 +15,15 @@ use Rattle.record.specs.Reading.{walked, isRecord, readOf}
 use Rattle.record.specs.AtStation.{receiveBytesOf}
 use Rattle.ground.specs.First.{firstFrom}
 use Rattle.table.specs.Sound.{tableSound}
-use Rattle.table.specs.Fresh.{seatsTo, freshOf}
+use Rattle.table.specs.Fresh.{seatsTo, freshTableOf}
 use Rattle.steps.specs.Running.{askedIn, leftBy, ranOf}
 use Rattle.steps.specs.Steps.{stepOf}
 use Rattle.script.specs.Words.{numeralOf}
 use Rattle.script.specs.Lines.{stationsOf}
 use Rattle.script.specs.Starting.{startedOf}
-use Rattle.script.specs.Filling.{turnOf}
+use Rattle.script.specs.Putting.{pieceOf}
 use Rattle.demands.specs.Done.{doneAnswers}
 
 pub all-done : doneAnswers ≡ replicate (length doneAnswers) 0
-unfolding takenOf addedTo drawnFrom askedIn leftBy ranOf numeralOf stationsOf startedOf turnOf freshStation addOf drawOf showOf receiveOf takeOf stationSound messageSound allBelow recordOf bytesOf big numberAt look taken step ended walkFrom walked isRecord readOf receiveBytesOf firstFrom tableSound seatsTo freshOf stepOf sumBelow
+unfolding takenOf addedTo drawnFrom askedIn leftBy ranOf numeralOf stationsOf startedOf pieceOf freshOf addOf drawOf showOf receiveOf fiveRules stationSound messageSound allBelow recordOf bytesOf big numberAt look taken step ended walkFrom walked isRecord readOf receiveBytesOf firstFrom tableSound seatsTo freshTableOf stepOf sumBelow
 all-done = refl

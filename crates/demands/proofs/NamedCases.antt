@@ -6,7 +6,7 @@ use Rattle.ground.specs.Sums.{sumBelow}
 use Rattle.ground.specs.Below.{allBelow}
 use Rattle.station.specs.Sound.{stationSound, messageSound}
 use Rattle.rules.specs.Stock.{drawnFrom}
-use Rattle.rules.specs.Taking.{takeOf}
+use Rattle.rules.specs.Taking.{fiveRules}
 use Rattle.station.specs.Steps.{addOf, drawOf, showOf, receiveOf}
 use Rattle.record.specs.Numbers.{big, numberAt}
 use Rattle.record.specs.Fields.{bytesOf}
@@ -16,7 +16,7 @@ use Rattle.record.specs.Reading.{walked, isRecord, readOf}
 use Rattle.record.specs.AtStation.{receiveBytesOf}
 use Rattle.ground.specs.First.{firstFrom}
 use Rattle.table.specs.Sound.{tableSound}
-use Rattle.table.specs.Fresh.{seatsTo, freshOf}
+use Rattle.table.specs.Fresh.{seatsTo, freshTableOf}
 use Rattle.steps.specs.Steps.{stepOf}
 use Rattle.runs.specs.Runs.{logOf}
 use Rattle.demands.specs.Cases.{Case}
@@ -26,17 +26,17 @@ use Rattle.demands.specs.SpentTokens.{spentTokens}
 use Rattle.demands.specs.DrawCases.{drawCases}
 
 pub named-cases-hold : map (λ (c : Case). c .gives) namedCases ≡ map (λ (c : Case). c .wanted) namedCases
-unfolding showOf receiveOf takeOf stationSound messageSound allBelow recordOf bytesOf big numberAt look taken step ended walkFrom walked isRecord readOf receiveBytesOf firstFrom tableSound seatsTo freshOf stepOf logOf
+unfolding showOf receiveOf fiveRules stationSound messageSound allBelow recordOf bytesOf big numberAt look taken step ended walkFrom walked isRecord readOf receiveBytesOf firstFrom tableSound seatsTo freshTableOf stepOf logOf
 named-cases-hold = refl
 
 pub bound-cases-hold : map (λ (c : Case). c .gives) boundCases ≡ map (λ (c : Case). c .wanted) boundCases
-unfolding addOf drawOf receiveOf takeOf stationSound messageSound allBelow tableSound seatsTo freshOf stepOf sumBelow
+unfolding addOf drawOf receiveOf fiveRules stationSound messageSound allBelow tableSound seatsTo freshTableOf stepOf sumBelow
 bound-cases-hold = refl
 
 pub spent-tokens-hold : map (λ (c : Case). c .gives) spentTokens ≡ map (λ (c : Case). c .wanted) spentTokens
-unfolding receiveOf takeOf stationSound messageSound allBelow
+unfolding receiveOf fiveRules stationSound messageSound allBelow
 spent-tokens-hold = refl
 
 pub draw-cases-hold : map (λ (c : Case). c .gives) drawCases ≡ map (λ (c : Case). c .wanted) drawCases
-unfolding drawnFrom drawOf stationSound messageSound allBelow tableSound seatsTo freshOf stepOf
+unfolding drawnFrom drawOf stationSound messageSound allBelow tableSound seatsTo freshTableOf stepOf
 draw-cases-hold = refl

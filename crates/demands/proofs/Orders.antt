@@ -33,7 +33,7 @@ use Rattle.steps.specs.declared.asked.Step.{Step}
 use Rattle.steps.specs.declared.asked.Step.the-variants.{Add, Draw, Send, Deliver, Lose}
 use Rattle.table.specs.declared.stepped.Stepped.{Stepped}
 use Rattle.table.specs.declared.table.Table.{Table}
-use Rattle.table.specs.Fresh.{freshRefusals as freshTableRefusals, freshOf as freshTableOf}
+use Rattle.table.specs.Fresh.{freshTableRefusals, freshTableOf}
 use Rattle.pool.specs.Lent.{sendInRefusals, loseInRefusals}
 use Rattle.steps.specs.Running.{ranOf}
 use Rattle.table.specs.Sound.{tableSound}
@@ -45,9 +45,9 @@ use Rattle.steps.proofs.Ran.{step-answers}
 use Rattle.steps.proofs.Same.{deliver-same}
 use Rattle.script.specs.declared.starting.Put.{Put}
 use Rattle.script.specs.declared.starting.Run.{Run}
-use Rattle.script.specs.Filling.{fillRefusals}
-use Rattle.script.specs.Starting.{putRefusals, startRefusals}
-use Rattle.script.proofs.Answers.{start-tells, fill-tells}
+use Rattle.script.specs.Putting.{putLinesRefusals}
+use Rattle.script.specs.Starting.{putAnswerRefusals, startRefusals}
+use Rattle.script.proofs.Answers.{start-tells, put-lines-tells}
 use Rattle.demands.specs.Orders.{Order, orders, OneOf, Answers}
 
 pub orders-printed : (s : Station) (t : Table) (m : Message) (x : Side) (pool : List Place) (run : Run) (bytes : List ℕ) (i j k : ℕ)
@@ -152,6 +152,6 @@ answers =
           let rs = writeRefusals (messageOf message) (length out) in
           given-answer (writeBy message out) (fits-or (messageFits message) _ noRecord out (by-list rs refl));
       start = λ script. by-list (startRefusals script) (start-tells script);
-      put-answer = λ answer out r out′ p. by-list (putRefusals out) (ap (λ (r : Put). r .answer) (p .put));
-      fill = λ script run out r out′ p. rw (p .filled) (by-list (fillRefusals run (length out)) (fill-tells script run (length out)));
+      put-answer = λ answer out r out′ p. by-list (putAnswerRefusals out) (ap (λ (r : Put). r .answer) (p .put));
+      put-lines = λ script run out r out′ p. rw (p .put) (by-list (putLinesRefusals run (length out)) (put-lines-tells script run (length out)));
     }

@@ -12,11 +12,11 @@ use Rattle.ground.specs.Choice.{ifDone}
 use Rattle.record.specs.Writing.{inFront, Writes}
 use Rattle.quynhabet.specs.Exports.{Given, Gives}
 use Rattle.table.specs.declared.table.Table.{Table}
-use Rattle.steps.specs.Running.{ranOf, toldOf, Runs}
+use Rattle.steps.specs.Running.{ranOf, toldInRun, Runs}
 use Rattle.measure.specs.Steps.{RunsFresh}
 use Rattle.script.specs.declared.starting.Run.{Run}
-use Rattle.script.specs.Filling.{filledBy, Fills, turnOf}
-use Rattle.script.specs.Starting.{answerPut, PutsAnswer, putOf}
+use Rattle.script.specs.Putting.{pieceTold, PutsLines, pieceOf}
+use Rattle.script.specs.Starting.{answerBytes, PutsAnswer, putAnswerOf}
 use Rattle.demands.specs.Contracts.{Arguments, Contract, Lifetimes, Promises, Result, Settles}
 use Rattle.demands.specs.Settled.{Settled}
 
@@ -43,18 +43,18 @@ giving : (g : Given) (x y : _ × List ℕ) → Gives g (x .0) (x .1) → Gives g
 giving g x y p q = pair x y (same (g .told) _ _ (p .told) (q .told)) (same (g .lent) _ _ (p .lent) (q .lent))
 
 running : (t : Table) (codes told : List ℕ) (x y : _ × List ℕ) → Runs t codes told (x .0) (x .1) → Runs t codes told (y .0) (y .1) → x ≡ y
-running t codes told x y p q = pair x y (same (ranOf t codes told) _ _ (p .ran) (q .ran)) (same (toldOf t codes told) _ _ (p .lent) (q .lent))
+running t codes told x y p q = pair x y (same (ranOf t codes told) _ _ (p .ran) (q .ran)) (same (toldInRun t codes told) _ _ (p .lent) (q .lent))
 
 running-fresh : (count : ℕ) (codes told : List ℕ) (x y : ℕ × List ℕ) → RunsFresh count codes told (x .0) (x .1) → RunsFresh count codes told (y .0) (y .1) → x ≡ y
 running-fresh count codes told x y p q = pair x y (p .ran ∙ sym (q .ran)) (p .lent ∙ sym (q .lent))
 
 putting : (answer : ℕ) (out : List ℕ) (x y : _ × List ℕ) → PutsAnswer answer out (x .0) (x .1) → PutsAnswer answer out (y .0) (y .1) → x ≡ y
-putting answer out x y p q = pair x y (same (putOf answer out) _ _ (p .put) (q .put)) (same (sets out 0 (answerPut answer out)) _ _ (p .lent) (q .lent))
+putting answer out x y p q = pair x y (same (putAnswerOf answer out) _ _ (p .put) (q .put)) (same (sets out 0 (answerBytes answer out)) _ _ (p .lent) (q .lent))
 
-filling : (script : List ℕ) (run : Run) (out : List ℕ) (x y : _ × List ℕ) → Fills script run out (x .0) (x .1) → Fills script run out (y .0) (y .1) → x ≡ y
-filling script run out x y p q =
-    let turn = turnOf script run (length out) in
-    pair x y (same (filledBy turn) _ _ (p .filled) (q .filled)) (same (sets out 0 (turn .bytes)) _ _ (p .lent) (q .lent))
+put-lines-settled : (script : List ℕ) (run : Run) (out : List ℕ) (x y : _ × List ℕ) → PutsLines script run out (x .0) (x .1) → PutsLines script run out (y .0) (y .1) → x ≡ y
+put-lines-settled script run out x y p q =
+    let turn = pieceOf script run (length out) in
+    pair x y (same (pieceTold turn) _ _ (p .put) (q .put)) (same (sets out 0 (turn .bytes)) _ _ (p .lent) (q .lent))
 
 pub settled : Settled
 settled =
@@ -116,5 +116,5 @@ settled =
       pool·lose-value = λ pool p. given refl;
       script·start = λ script. given refl;
       script·put-answer = λ answer out. record { promised = refl; settled = λ κ. putting _ _ };
-      script·fill = λ script run out. record { promised = refl; settled = λ κ. filling _ _ _ };
+      script·put-lines = λ script run out. record { promised = refl; settled = λ κ. put-lines-settled _ _ _ };
     }

@@ -53,16 +53,16 @@ use Rattle.pool.specs.declared.places.Place.{Place}
 use Rattle.table.specs.declared.stepped.Stepped.{Stepped}
 use Rattle.table.specs.declared.table.Table.{Table}
 use Rattle.pool.specs.Pool.{mostPlaces}
-use Rattle.table.specs.Fresh.{freshOf as freshTableOf}
+use Rattle.table.specs.Fresh.{freshTableOf}
 use Rattle.pool.specs.Lent.{cleared, SendsIn, LosesIn, sentValue, lostValue}
 use Rattle.steps.specs.Running.{Runs}
 use Rattle.steps.specs.Steps.{stepOf}
 use Rattle.table.specs.Way.{wayAsked, stationsAsked}
-use Rattle.script.specs.declared.filling.Filled.{Filled}
+use Rattle.script.specs.declared.putting.PutLines.{PutLines}
 use Rattle.script.specs.declared.starting.Put.{Put}
 use Rattle.script.specs.declared.starting.Run.{Run}
 use Rattle.script.specs.declared.starting.Started.{Started}
-use Rattle.script.specs.Filling.{Fills}
+use Rattle.script.specs.Putting.{PutsLines}
 use Rattle.script.specs.Starting.{PutsAnswer, startedOf}
 
 -- every number 0 and nothing held: no station, no table, and no run of a script
@@ -137,9 +137,9 @@ RefusedStart r = Refused (r .answer) (r .result) noRun (r .run)
 abbrev pub RefusedPut : List ℕ → Put → List ℕ → Type 0
 RefusedPut before r after = Refused (r .answer) (r .result) before after
 
--- a refused filling: result 0, the run is this one, and so is the buffer
-abbrev pub RefusedFill : Run → List ℕ → Filled → List ℕ → Type 0
-RefusedFill run before r after = r .answer ≢ done → (r .result ≡ 0) × (r .run ≡ run) × (after ≡ before)
+-- a refused putting of lines: result 0, the run is this one, and so is the buffer
+abbrev pub RefusedPutLines : Run → List ℕ → PutLines → List ℕ → Type 0
+RefusedPutLines run before r after = r .answer ≢ done → (r .result ≡ 0) × (r .run ≡ run) × (after ≡ before)
 
 pub record Demand1 : Type 0 where
   -- 1, 9, 10: the side is as it was
@@ -215,4 +215,4 @@ pub record Demand1 : Type 0 where
   -- 14: the buffer is as it was
   pub script·put-answer : (answer : ℕ) (out : List ℕ) (r : Put) (out′ : List ℕ) → PutsAnswer answer out r out′ → RefusedPut out r out′
   -- 1, 14: the run is handed back as it was, and so is the buffer
-  pub script·fill : (script : List ℕ) (run : Run) (out : List ℕ) (r : Filled) (out′ : List ℕ) → Fills script run out r out′ → RefusedFill run out r out′
+  pub script·put-lines : (script : List ℕ) (run : Run) (out : List ℕ) (r : PutLines) (out′ : List ℕ) → PutsLines script run out r out′ → RefusedPutLines run out r out′

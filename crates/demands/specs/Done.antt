@@ -3,34 +3,29 @@
 use Prim.Native.Nat.{ℕ}
 use mathlib.Core.List.{List, [], _∷_}
 use lib.ListN.{replicate}
-use Rattle.rules.specs.declared.side.Side.{Side}
 use Rattle.rules.specs.Stock.{addedTo, drawnFrom}
 use Rattle.rules.specs.Taking.{takenOf}
-use Rattle.station.specs.Side.{sideFor}
-use Rattle.station.specs.Steps.{freshOf as freshStation, addOf, drawOf, showOf, receiveOf, messageFor}
+use Rattle.station.specs.Steps.{freshOf, addOf, drawOf, showOf, receiveOf, messageFor}
 use Rattle.record.specs.Dateless.{recordOf}
 use Rattle.record.specs.Reading.{readOf}
 use Rattle.record.specs.Writing.{writeAnswer}
 use Rattle.record.specs.AtStation.{writeForAnswer, receiveBytesOf}
 use Rattle.steps.specs.declared.asked.Step.the-variants.{Add, Draw, Send, Deliver, Lose}
 use Rattle.table.specs.declared.table.Table.{Table}
-use Rattle.table.specs.Fresh.{freshOf}
+use Rattle.table.specs.Fresh.{freshTableOf}
 use Rattle.pool.specs.Lent.{sendInTold, loseInTold}
 use Rattle.steps.specs.Running.{ranOf}
 use Rattle.steps.specs.Steps.{stepOf}
 use Rattle.table.specs.Way.{wayAsked, stationsAsked}
-use Rattle.script.specs.Filling.{turnOf}
-use Rattle.script.specs.Starting.{putOf, startedOf}
-use Rattle.demands.specs.Wrong.{stocked, gave, asked, pays}
+use Rattle.script.specs.Putting.{pieceOf}
+use Rattle.script.specs.Starting.{putAnswerOf, startedOf}
+use Rattle.demands.specs.Wrong.{hasThree, gave, asked, pays}
+use Rattle.demands.specs.WrongRules.{waitingForFive}
 use Rattle.demands.specs.WrongScripts.{opening}
-
--- a side that waits for what the message pays
-abbrev waits : Side
-waits = sideFor asked (pays .from)
 
 -- two stations with nothing, and the same with a message of station 0 at place 0
 abbrev empty : Table
-empty = freshOf 2 .table
+empty = freshTableOf 2 .table
 
 abbrev waiting : Table
 waiting = stepOf empty (Send 0 1) .table
@@ -38,17 +33,17 @@ waiting = stepOf empty (Send 0 1) .table
 abbrev pub doneAnswers : List ℕ
 doneAnswers =
     -- take
-    takenOf waits pays .answer
+    takenOf (waitingForFive 2) pays .answer
     -- add_to
     ∷ addedTo 3 3 4 .answer
     -- draw_from
     ∷ drawnFrom 3 3 2 .answer
     -- fresh
-    ∷ freshStation 1 2 .answer
+    ∷ freshOf 1 2 .answer
     -- add
-    ∷ addOf stocked 4 .answer
+    ∷ addOf hasThree 4 .answer
     -- draw
-    ∷ drawOf stocked 2 .answer
+    ∷ drawOf hasThree 2 .answer
     -- message_for
     ∷ showOf gave 0 .answer
     -- receive
@@ -62,7 +57,7 @@ doneAnswers =
     -- receive_bytes
     ∷ receiveBytesOf asked (recordOf pays) .answer
     -- fresh_table
-    ∷ freshOf 2 .answer
+    ∷ freshTableOf 2 .answer
     -- step: an add, a draw, a send, a delivery and a loss
     ∷ stepOf empty (Add 0 10) .answer
     ∷ stepOf (stepOf empty (Add 0 10) .table) (Draw 0 10) .answer
@@ -82,7 +77,7 @@ doneAnswers =
     -- start
     ∷ startedOf opening .answer
     -- put_answer
-    ∷ putOf 13 (replicate 64 0) .answer
-    -- fill
-    ∷ turnOf opening (startedOf opening .run) 2048 .answer
+    ∷ putAnswerOf 13 (replicate 64 0) .answer
+    -- put_lines
+    ∷ pieceOf opening (startedOf opening .run) 2048 .answer
     ∷ []

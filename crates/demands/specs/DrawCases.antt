@@ -6,7 +6,7 @@ use mathlib.Core.List.{List, [], _∷_}
 use Rattle.rules.specs.Stock.{drawnFrom}
 use Rattle.station.specs.declared.station.Station.{Station}
 use Rattle.station.specs.Steps.{blank, putStock, drawOf}
-use Rattle.table.specs.Fresh.{freshOf}
+use Rattle.table.specs.Fresh.{freshTableOf}
 use Rattle.table.specs.Table.{stationAt, putStation}
 use Rattle.steps.specs.declared.asked.Step.the-variants.{Draw}
 use Rattle.steps.specs.Steps.{stepOf}
@@ -28,7 +28,7 @@ atStation value intake amount =
 -- and at station k of a table of two with that station
 abbrev inTable : ℕ → ℕ → ℕ → ℕ → List ℕ
 inTable value intake k amount =
-    let r = stepOf (putStation (freshOf 2 .table) 1 (holder value intake)) (Draw k amount) in
+    let r = stepOf (putStation (freshTableOf 2 .table) 1 (holder value intake)) (Draw k amount) in
     r .answer ∷ r .result ∷ stationAt (r .table) 1 .value ∷ stationAt (r .table) 1 .intake ∷ []
 
 -- with an intake of 7

@@ -6,26 +6,18 @@ use Rattle.rules.specs.declared.held.HeldSlot.{HeldSlot}
 use Rattle.rules.specs.declared.held.HeldSlot.the-variants.{NoSlot}
 use Rattle.rules.specs.declared.held.HeldToken.{HeldToken}
 use Rattle.rules.specs.declared.held.HeldToken.the-variants.{NoToken}
-use Rattle.station.specs.declared.station.Station.{Station}
 use Rattle.rules.specs.declared.message.Message.{Message}
-use Rattle.station.specs.Side.{putSide}
-use Rattle.station.specs.Sound.{stationSound, messageSound}
 use Rattle.station.specs.Steps.{blank, receiveOf}
 use Rattle.record.specs.Dateless.{recordOf}
 use Rattle.record.specs.Reading.{readOf}
 use Rattle.record.specs.AtStation.{receiveBytesOf}
 use Rattle.steps.specs.declared.asked.Step.{Step}
 use Rattle.steps.specs.declared.asked.Step.the-variants.{Send, Lose}
-use Rattle.table.specs.Fresh.{freshOf}
+use Rattle.table.specs.Fresh.{freshTableOf}
 use Rattle.steps.specs.Steps.{stepOf}
 use Rattle.runs.specs.Runs.{Line, logOf}
-use Rattle.demands.specs.Samples.{station1, from0, slot, token, slotNumbers, tokenNumbers, numbersOf}
+use Rattle.demands.specs.Samples.{station1, stationHolding, bareMessage, from0, slot, token, shownNumbers, outcomeNumbers, soundStations, soundMessages}
 use Rattle.demands.specs.Cases.{Case}
-use Rattle.demands.specs.Wrong.{truth}
-
--- a message from a station to a station, with nothing else to it
-abbrev between : ℕ → ℕ → Message
-between from to = record { from = from; to = to; value = 0; source = record { 0 = 0 }; destination = record { 0 = 0 }; slot = NoSlot; token = NoToken }
 
 -- the answers of station 1 of 3 to a message, and to its record
 abbrev answersTo : Message → List ℕ
@@ -51,103 +43,89 @@ abbrev aToken : HeldToken
 aToken = token 168496141 1094861636 12986025993
 
 -- its bytes: fields 1 to 4, its slot, its token
-abbrev frontBytes : List ℕ
-frontBytes =
+abbrev aFrontBytes : List ℕ
+aFrontBytes =
     1 ∷ 0 ∷ 1 ∷ 2 ∷ 2 ∷ 0 ∷ 1 ∷ 9 ∷ 3 ∷ 0 ∷ 8 ∷ 0 ∷ 0 ∷ 0 ∷ 1 ∷ 2 ∷ 3 ∷ 4 ∷ 5 ∷ 4 ∷ 0 ∷ 8 ∷ 17 ∷ 18 ∷ 19 ∷ 20 ∷ 33 ∷ 34 ∷ 35 ∷ 36 ∷ []
 
-abbrev slotBytes : List ℕ
-slotBytes = 5 ∷ 0 ∷ 16 ∷ 49 ∷ 50 ∷ 51 ∷ 52 ∷ 26 ∷ 27 ∷ 28 ∷ 29 ∷ 0 ∷ 0 ∷ 0 ∷ 2 ∷ 3 ∷ 4 ∷ 5 ∷ 6 ∷ []
+abbrev aSlotBytes : List ℕ
+aSlotBytes = 5 ∷ 0 ∷ 16 ∷ 49 ∷ 50 ∷ 51 ∷ 52 ∷ 26 ∷ 27 ∷ 28 ∷ 29 ∷ 0 ∷ 0 ∷ 0 ∷ 2 ∷ 3 ∷ 4 ∷ 5 ∷ 6 ∷ []
 
-abbrev tokenBytes : List ℕ
-tokenBytes = 6 ∷ 0 ∷ 16 ∷ 10 ∷ 11 ∷ 12 ∷ 13 ∷ 65 ∷ 66 ∷ 67 ∷ 68 ∷ 0 ∷ 0 ∷ 0 ∷ 3 ∷ 6 ∷ 7 ∷ 8 ∷ 9 ∷ []
-
-abbrev messageNumbers : Message → List ℕ
-messageNumbers m = m .from ∷ m .to ∷ m .value ∷ m .source .0 ∷ m .destination .0 ∷ (slotNumbers (m .slot) ++ tokenNumbers (m .token))
+abbrev aTokenBytes : List ℕ
+aTokenBytes = 6 ∷ 0 ∷ 16 ∷ 10 ∷ 11 ∷ 12 ∷ 13 ∷ 65 ∷ 66 ∷ 67 ∷ 68 ∷ 0 ∷ 0 ∷ 0 ∷ 3 ∷ 6 ∷ 7 ∷ 8 ∷ 9 ∷ []
 
 -- what bytes are read as
 abbrev readAs : List ℕ → List ℕ
-readAs bytes = let r = readOf bytes in r .answer ∷ r .result ∷ messageNumbers (r .message)
+readAs bytes = let r = readOf bytes in r .answer ∷ r .result ∷ shownNumbers (r .message)
 
--- station 1 of so many, with these clocks, and a slot and a token for station k
-abbrev holds : ℕ → ℕ → ℕ → ℕ → HeldSlot → HeldToken → Station
-holds count k source destination l t =
-    putSide (blank 1 count) k (record { value = 0; source = record { 0 = source }; destination = record { 0 = destination }; slot = l; token = t })
-
--- whether each of two is sound: the one with something wrong, and the same with that put right
-abbrev stations : Station → Station → List (List ℕ)
-stations wrong right = truth (stationSound wrong) ∷ truth (stationSound right) ∷ []
-
-abbrev messages : Message → Message → List (List ℕ)
-messages wrong right = truth (messageSound wrong) ∷ truth (messageSound right) ∷ []
-
+-- of two, the one with something wrong, and the same with that put right
 abbrev onlyTheSecond : List (List ℕ)
 onlyTheSecond = (0 ∷ []) ∷ (1 ∷ []) ∷ []
 
 -- the result of each step of a run of two stations
 abbrev resultsOf : List Step → List ℕ
-resultsOf steps = map (λ (x : Line). x .result) (logOf stepOf (freshOf 2 .table) steps)
+resultsOf steps = map (λ (x : Line). x .result) (logOf stepOf (freshTableOf 2 .table) steps)
 
 abbrev pub namedCases : List Case
 namedCases =
     -- value 2, slot of 5, a message with value 13 and the token of 5: filled to 7, and a slot of 3
     -- opened, not of 5
     record {
-      gives = numbersOf (receiveOf (station1 2 0 1 (slot 0 0 5) NoToken) (from0 13 1 0 NoSlot (token 0 0 5)));
+      gives = outcomeNumbers (receiveOf (station1 2 0 1 (slot 0 0 5) NoToken) (from0 13 1 0 NoSlot (token 0 0 5)));
       wanted = (0 ∷ 5 ∷ []) ∷ (1 ∷ 3 ∷ []) ∷ (3 ∷ 0 ∷ []) ∷ (7 ∷ 0 ∷ 2 ∷ []) ∷ (1 ∷ 1 ∷ 3 ∷ []) ∷ [] ∷ [];
     }
     -- for a station at the count, or above it, which is also for another station: 2; from one at
     -- the count and for another station: 2
     ∷ record {
-      gives = answersTo (between 0 3) ∷ answersTo (between 0 15) ∷ answersTo (between 3 0) ∷ [];
+      gives = answersTo (bareMessage 0 3) ∷ answersTo (bareMessage 0 15) ∷ answersTo (bareMessage 3 0) ∷ [];
       wanted = (2 ∷ 2 ∷ []) ∷ (2 ∷ 2 ∷ []) ∷ (2 ∷ 2 ∷ []) ∷ [];
     }
     -- for another station of the table: 11; for this station, from one at the count: 2; for this
     -- station: done
     ∷ record {
-      gives = answersTo (between 0 2) ∷ answersTo (between 3 1) ∷ answersTo (between 2 1) ∷ [];
+      gives = answersTo (bareMessage 0 2) ∷ answersTo (bareMessage 3 1) ∷ answersTo (bareMessage 2 1) ∷ [];
       wanted = (11 ∷ 11 ∷ []) ∷ (2 ∷ 2 ∷ []) ∷ (0 ∷ 0 ∷ []) ∷ [];
     }
     -- the 49 bytes of a record with a token, written and read
     ∷ record {
-      gives = recordOf (written NoSlot aToken) ∷ readAs (frontBytes ++ tokenBytes) ∷ [];
-      wanted = (frontBytes ++ tokenBytes) ∷ (0 ∷ 49 ∷ messageNumbers (written NoSlot aToken)) ∷ [];
+      gives = recordOf (written NoSlot aToken) ∷ readAs (aFrontBytes ++ aTokenBytes) ∷ [];
+      wanted = (aFrontBytes ++ aTokenBytes) ∷ (0 ∷ 49 ∷ shownNumbers (written NoSlot aToken)) ∷ [];
     }
     -- the 49 bytes of a record with a slot
     ∷ record {
-      gives = recordOf (written aSlot NoToken) ∷ readAs (frontBytes ++ slotBytes) ∷ [];
-      wanted = (frontBytes ++ slotBytes) ∷ (0 ∷ 49 ∷ messageNumbers (written aSlot NoToken)) ∷ [];
+      gives = recordOf (written aSlot NoToken) ∷ readAs (aFrontBytes ++ aSlotBytes) ∷ [];
+      wanted = (aFrontBytes ++ aSlotBytes) ∷ (0 ∷ 49 ∷ shownNumbers (written aSlot NoToken)) ∷ [];
     }
     -- the 68 bytes of a record with both
     ∷ record {
-      gives = recordOf (written aSlot aToken) ∷ readAs (frontBytes ++ slotBytes ++ tokenBytes) ∷ [];
-      wanted = (frontBytes ++ slotBytes ++ tokenBytes) ∷ (0 ∷ 68 ∷ messageNumbers (written aSlot aToken)) ∷ [];
+      gives = recordOf (written aSlot aToken) ∷ readAs (aFrontBytes ++ aSlotBytes ++ aTokenBytes) ∷ [];
+      wanted = (aFrontBytes ++ aSlotBytes ++ aTokenBytes) ∷ (0 ∷ 68 ∷ shownNumbers (written aSlot aToken)) ∷ [];
     }
     -- both, the token first: no record
     ∷ record {
-      gives = readAs (frontBytes ++ tokenBytes ++ slotBytes) ∷ [];
+      gives = readAs (aFrontBytes ++ aTokenBytes ++ aSlotBytes) ∷ [];
       wanted = (9 ∷ 0 ∷ 0 ∷ 0 ∷ 0 ∷ 0 ∷ 0 ∷ []) ∷ [];
     }
     -- a slot whose destination clock is its holder's; one below it
-    ∷ record { gives = stations (holds 3 0 0 1 (slot 4 1 5) NoToken) (holds 3 0 0 1 (slot 4 0 5) NoToken); wanted = onlyTheSecond }
+    ∷ record { gives = soundStations (stationHolding 3 0 0 1 (slot 4 1 5) NoToken) (stationHolding 3 0 0 1 (slot 4 0 5) NoToken); wanted = onlyTheSecond }
     -- the same in a message
-    ∷ record { gives = messages (from0 0 0 1 (slot 4 1 5) NoToken) (from0 0 0 1 (slot 4 0 5) NoToken); wanted = onlyTheSecond }
+    ∷ record { gives = soundMessages (from0 0 0 1 (slot 4 1 5) NoToken) (from0 0 0 1 (slot 4 0 5) NoToken); wanted = onlyTheSecond }
     -- a token whose source clock is its maker's; one below it
-    ∷ record { gives = stations (holds 3 0 1 0 NoSlot (token 1 4 5)) (holds 3 0 1 0 NoSlot (token 0 4 5)); wanted = onlyTheSecond }
+    ∷ record { gives = soundStations (stationHolding 3 0 1 0 NoSlot (token 1 4 5)) (stationHolding 3 0 1 0 NoSlot (token 0 4 5)); wanted = onlyTheSecond }
     -- the same in a message
-    ∷ record { gives = messages (from0 0 1 0 NoSlot (token 1 4 5)) (from0 0 1 0 NoSlot (token 0 4 5)); wanted = onlyTheSecond }
+    ∷ record { gives = soundMessages (from0 0 1 0 NoSlot (token 1 4 5)) (from0 0 1 0 NoSlot (token 0 4 5)); wanted = onlyTheSecond }
     -- a slot for oneself; for another
-    ∷ record { gives = stations (holds 3 1 0 1 (slot 4 0 5) NoToken) (holds 3 2 0 1 (slot 4 0 5) NoToken); wanted = onlyTheSecond }
+    ∷ record { gives = soundStations (stationHolding 3 1 0 1 (slot 4 0 5) NoToken) (stationHolding 3 2 0 1 (slot 4 0 5) NoToken); wanted = onlyTheSecond }
     -- a token for oneself; for another
-    ∷ record { gives = stations (holds 3 1 1 0 NoSlot (token 0 4 5)) (holds 3 2 1 0 NoSlot (token 0 4 5)); wanted = onlyTheSecond }
+    ∷ record { gives = soundStations (stationHolding 3 1 1 0 NoSlot (token 0 4 5)) (stationHolding 3 2 1 0 NoSlot (token 0 4 5)); wanted = onlyTheSecond }
     -- a slot for the number past the count; with a count one more
-    ∷ record { gives = stations (holds 2 2 0 1 (slot 4 0 5) NoToken) (holds 3 2 0 1 (slot 4 0 5) NoToken); wanted = onlyTheSecond }
+    ∷ record { gives = soundStations (stationHolding 2 2 0 1 (slot 4 0 5) NoToken) (stationHolding 3 2 0 1 (slot 4 0 5) NoToken); wanted = onlyTheSecond }
     -- a token for the number past the count; with a count one more
-    ∷ record { gives = stations (holds 2 2 1 0 NoSlot (token 0 4 5)) (holds 3 2 1 0 NoSlot (token 0 4 5)); wanted = onlyTheSecond }
+    ∷ record { gives = soundStations (stationHolding 2 2 1 0 NoSlot (token 0 4 5)) (stationHolding 3 2 1 0 NoSlot (token 0 4 5)); wanted = onlyTheSecond }
     -- a slot of 0; of 1
-    ∷ record { gives = stations (holds 3 0 0 1 (slot 4 0 0) NoToken) (holds 3 0 0 1 (slot 4 0 1) NoToken); wanted = onlyTheSecond }
+    ∷ record { gives = soundStations (stationHolding 3 0 0 1 (slot 4 0 0) NoToken) (stationHolding 3 0 0 1 (slot 4 0 1) NoToken); wanted = onlyTheSecond }
     -- a slot past 16,000,000,000; a token of 0
     ∷ record {
-      gives = stations (holds 3 0 0 1 (slot 4 0 16000000001) NoToken) (holds 3 0 1 0 NoSlot (token 0 4 0));
+      gives = soundStations (stationHolding 3 0 0 1 (slot 4 0 16000000001) NoToken) (stationHolding 3 0 1 0 NoSlot (token 0 4 0));
       wanted = onlyTheSecond;
     }
     -- a place freed by a loss is used again, and then the one past the last taken

@@ -21,16 +21,16 @@ use Rattle.pool.specs.declared.places.Place.{Place}
 use Rattle.steps.specs.declared.running.Ran.{Ran}
 use Rattle.steps.specs.declared.asked.Step.the-variants.{Add, Draw, Send, Deliver, Lose}
 use Rattle.table.specs.declared.table.Table.{Table}
-use Rattle.table.specs.Fresh.{freshRefusals as freshTableRefusals, freshOf as freshTableOf}
+use Rattle.table.specs.Fresh.{freshTableRefusals, freshTableOf}
 use Rattle.pool.specs.Lent.{sendInRefusals, sendInTold, loseInRefusals, loseInTold}
 use Rattle.steps.specs.Running.{Runs}
 use Rattle.steps.specs.Steps.{stepRefusals, stepOf}
 use Rattle.table.specs.Way.{sumRefusals, wayAsked, stationsAsked}
-use Rattle.script.specs.declared.filling.Filled.{Filled}
+use Rattle.script.specs.declared.putting.PutLines.{PutLines}
 use Rattle.script.specs.declared.starting.Put.{Put}
 use Rattle.script.specs.declared.starting.Run.{Run}
-use Rattle.script.specs.Filling.{Fills, fillRefusals}
-use Rattle.script.specs.Starting.{PutsAnswer, putRefusals, startRefusals, startedOf}
+use Rattle.script.specs.Putting.{PutsLines, putLinesRefusals}
+use Rattle.script.specs.Starting.{PutsAnswer, putAnswerRefusals, startRefusals, startedOf}
 
 -- the numbers of a list of refusals in their order, and the order that is printed
 pub record Order : Type 0 where
@@ -76,8 +76,8 @@ orders s t m x pool run bytes i j k =
     -- a script: an overlong one is tested first, then its first line, then the count; and the two
     -- calls that put its output
     ∷ order (startRefusals bytes) (13 ∷ 12 ∷ 1 ∷ [])
-    ∷ order (putRefusals bytes) (14 ∷ [])
-    ∷ order (fillRefusals run i) (1 ∷ 14 ∷ [])
+    ∷ order (putAnswerRefusals bytes) (14 ∷ [])
+    ∷ order (putLinesRefusals run i) (1 ∷ 14 ∷ [])
     -- whether a station's numbers are sound
     ∷ order (checkRefusals bytes) (1 ∷ [])
     ∷ []
@@ -123,4 +123,4 @@ pub record Answers : Type 0 where
   pub qb-record-write : (message out : List ℕ) (r : ToldNumbers) (out′ : List ℕ) → WritesNumbers message out r out′ → OneOf (r .answer) (9 ∷ 14 ∷ [])
   pub start : (script : List ℕ) → OneOf (startedOf script .answer) (13 ∷ 12 ∷ 1 ∷ [])
   pub put-answer : (answer : ℕ) (out : List ℕ) (r : Put) (out′ : List ℕ) → PutsAnswer answer out r out′ → OneOf (r .answer) (14 ∷ [])
-  pub fill : (script : List ℕ) (run : Run) (out : List ℕ) (r : Filled) (out′ : List ℕ) → Fills script run out r out′ → OneOf (r .answer) (1 ∷ 14 ∷ [])
+  pub put-lines : (script : List ℕ) (run : Run) (out : List ℕ) (r : PutLines) (out′ : List ℕ) → PutsLines script run out r out′ → OneOf (r .answer) (1 ∷ 14 ∷ [])

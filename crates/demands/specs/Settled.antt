@@ -36,7 +36,7 @@ use Rattle.steps.specs.declared.asked.Asked.{Asked}
 use Rattle.steps.specs.declared.asked.Step.{Step}
 use Rattle.pool.specs.declared.places.Place.{Place}
 use Rattle.table.specs.declared.table.Table.{Table}
-use Rattle.table.specs.Fresh.{freshOf as freshTableOf}
+use Rattle.table.specs.Fresh.{freshTableOf}
 use Rattle.pool.specs.Lent.{SendsIn, LosesIn, sentValue, lostValue}
 use Rattle.steps.specs.Running.{Runs, numbersFor, askedBy}
 use Rattle.table.specs.Sound.{tableSound}
@@ -44,7 +44,7 @@ use Rattle.steps.specs.Steps.{stepOf}
 use Rattle.table.specs.Way.{wayAsked, stationsAsked}
 use Rattle.measure.specs.Steps.{lastResultOf, RunsFresh}
 use Rattle.script.specs.declared.starting.Run.{Run}
-use Rattle.script.specs.Filling.{Fills}
+use Rattle.script.specs.Putting.{PutsLines}
 use Rattle.script.specs.Starting.{PutsAnswer, startedOf}
 
 pub record Settled : Type 2 where
@@ -230,6 +230,6 @@ pub record Settled : Type 2 where
   pub script·put-answer : (answer : ℕ) (out : Lent (List ℕ))
       → SettlesBoth Rattle.script.proofs.starting.put_answer.ended (λ M 𝓤. Rattle.script.proofs.starting.put_answer.clauses 𝓤)
       (λ κ. (answer, (out, tt))) (λ κ e. now (e .1 .0)) (λ κ. PutsAnswer answer (now out))
-  pub script·fill : (script : Lent (List ℕ)) (run : Run) (out : Lent (List ℕ))
-      → SettlesBoth Rattle.script.proofs.filling.fill.ended (λ M 𝓤. Rattle.script.proofs.filling.fill.clauses 𝓤)
-      (λ κ. (script, (run, (out, tt)))) (λ κ e. now (e .1 .1 .0)) (λ κ. Fills (now script) run (now out))
+  pub script·put-lines : (script : Lent (List ℕ)) (run : Run) (out : Lent (List ℕ))
+      → SettlesBoth Rattle.script.proofs.putting.put_lines.ended (λ M 𝓤. Rattle.script.proofs.putting.put_lines.clauses 𝓤)
+      (λ κ. (script, (run, (out, tt)))) (λ κ e. now (e .1 .1 .0)) (λ κ. PutsLines (now script) run (now out))

@@ -6,13 +6,13 @@ use Rattle.rules.specs.declared.held.HeldSlot.{HeldSlot}
 use Rattle.rules.specs.declared.held.HeldSlot.the-variants.{NoSlot}
 use Rattle.rules.specs.declared.held.HeldToken.the-variants.{NoToken}
 use Rattle.station.specs.Steps.{receiveOf}
-use Rattle.demands.specs.Samples.{station1, from0, slot, token, numbersOf}
+use Rattle.demands.specs.Samples.{station1, from0, slot, token, outcomeNumbers}
 use Rattle.demands.specs.Cases.{Case}
 
 -- station 1 has 4, source clock 1, and made token (0,0) of 5; station 0 has nothing, and shows this
 -- destination clock and this slot
 abbrev shown : ℕ → HeldSlot → List (List ℕ)
-shown destination l = numbersOf (receiveOf (station1 4 1 0 NoSlot (token 0 0 5)) (from0 0 0 destination l NoToken))
+shown destination l = outcomeNumbers (receiveOf (station1 4 1 0 NoSlot (token 0 0 5)) (from0 0 0 destination l NoToken))
 
 abbrev pub spentTokens : List Case
 spentTokens =

@@ -4,7 +4,7 @@ use Prim.Native.Nat.{ℕ}
 use mathlib.Core.Bool.{Bool, true, false, _&&_, not}
 use mathlib.Core.List.{List, [], _∷_, _++_}
 use lib.Dec.{eqb}
-use lib.ListN.{replicate, length}
+use lib.ListN.{length}
 use Rattle.ground.specs.Choice.{ifDone}
 use Rattle.rules.specs.declared.held.HeldSlot.{HeldSlot}
 use Rattle.rules.specs.declared.held.HeldSlot.the-variants.{NoSlot, OneSlot}
@@ -23,7 +23,7 @@ use Rattle.record.specs.Dateless.{recordOf}
 use Rattle.record.specs.Reading.{readOf}
 use Rattle.record.specs.Writing.{inFront, writeAnswer}
 use Rattle.record.specs.AtStation.{writeForAnswer, receiveBytesOf}
-use Rattle.demands.specs.Samples.{station1, from0, slot, token, rulesOf, slotNumbers, tokenNumbers, numbersOf}
+use Rattle.demands.specs.Samples.{station1, from0, slot, token, rulesActed, shownNumbers, outcomeNumbers, truth, sevens}
 
 pub record Wrong : Type 0 where
   pub promised : List ℕ
@@ -49,17 +49,12 @@ seatOf r = r .answer ∷ r .result ∷ r .station .number ∷ r .station .count 
 abbrev stockOf : Outcome → List ℕ
 stockOf r = r .answer ∷ r .result ∷ r .station .value ∷ r .station .intake ∷ []
 
-abbrev messageOf : ℕ → Message → List ℕ
-messageOf n m =
-    n ∷ m .from ∷ m .to ∷ m .value ∷ m .source .0 ∷ m .destination .0 ∷ (slotNumbers (m .slot) ++ tokenNumbers (m .token))
-
-abbrev pub truth : Bool → List ℕ
-truth true = 1 ∷ []
-truth false = 0 ∷ []
+abbrev answerAndMessage : ℕ → Message → List ℕ
+answerAndMessage n m = n ∷ shownNumbers m
 
 -- station 1 of 2 with value 3 and intake 3; with a token for station 0; with a slot for station 0
-abbrev pub stocked : Station
-stocked = putStock (blank 1 2) 3 3
+abbrev pub hasThree : Station
+hasThree = putStock (blank 1 2) 3 3
 
 abbrev pub gave : Station
 gave = station1 3 1 0 NoSlot (token 0 0 5)
@@ -86,19 +81,19 @@ wrongs =
     record { promised = seatOf (freshOf 1 2); wrong = 0 ∷ 0 ∷ 0 ∷ 2 ∷ [] }
     ∷ record { promised = seatOf (freshOf 1 17); wrong = 0 ∷ 0 ∷ 1 ∷ 17 ∷ [] }
     -- add: tells the amount and not the new value; leaves the intake
-    ∷ record { promised = stockOf (addOf stocked 4); wrong = 0 ∷ 4 ∷ 7 ∷ 7 ∷ [] }
-    ∷ record { promised = stockOf (addOf stocked 4); wrong = 0 ∷ 7 ∷ 7 ∷ 3 ∷ [] }
+    ∷ record { promised = stockOf (addOf hasThree 4); wrong = 0 ∷ 4 ∷ 7 ∷ 7 ∷ [] }
+    ∷ record { promised = stockOf (addOf hasThree 4); wrong = 0 ∷ 7 ∷ 7 ∷ 3 ∷ [] }
     -- draw: takes less than it tells; gives what is there where more is asked; takes that where it
     -- refuses
-    ∷ record { promised = stockOf (drawOf stocked 2); wrong = 0 ∷ 3 ∷ 1 ∷ 3 ∷ [] }
-    ∷ record { promised = stockOf (drawOf stocked 5); wrong = 0 ∷ 3 ∷ 0 ∷ 3 ∷ [] }
-    ∷ record { promised = stockOf (drawOf stocked 5); wrong = 15 ∷ 0 ∷ 0 ∷ 3 ∷ [] }
+    ∷ record { promised = stockOf (drawOf hasThree 2); wrong = 0 ∷ 3 ∷ 1 ∷ 3 ∷ [] }
+    ∷ record { promised = stockOf (drawOf hasThree 5); wrong = 0 ∷ 3 ∷ 0 ∷ 3 ∷ [] }
+    ∷ record { promised = stockOf (drawOf hasThree 5); wrong = 15 ∷ 0 ∷ 0 ∷ 3 ∷ [] }
     -- message_for: hides the token; has a message for itself
-    ∷ record { promised = messageOf (showOf gave 0 .answer) (showOf gave 0 .message); wrong = 0 ∷ 1 ∷ 0 ∷ 3 ∷ 1 ∷ 0 ∷ [] }
-    ∷ record { promised = messageOf (showOf gave 1 .answer) (showOf gave 1 .message); wrong = 0 ∷ 1 ∷ 1 ∷ 3 ∷ 1 ∷ 0 ∷ [] }
+    ∷ record { promised = answerAndMessage (showOf gave 0 .answer) (showOf gave 0 .message); wrong = 0 ∷ 1 ∷ 0 ∷ 3 ∷ 1 ∷ 0 ∷ [] }
+    ∷ record { promised = answerAndMessage (showOf gave 1 .answer) (showOf gave 1 .message); wrong = 0 ∷ 1 ∷ 1 ∷ 3 ∷ 1 ∷ 0 ∷ [] }
     -- no_message: shows a value; is for another station than it is from
-    ∷ record { promised = messageOf 0 noMessage; wrong = 0 ∷ 0 ∷ 0 ∷ 1 ∷ 0 ∷ 0 ∷ [] }
-    ∷ record { promised = messageOf 0 noMessage; wrong = 0 ∷ 0 ∷ 1 ∷ 0 ∷ 0 ∷ 0 ∷ [] }
+    ∷ record { promised = answerAndMessage 0 noMessage; wrong = 0 ∷ 0 ∷ 0 ∷ 1 ∷ 0 ∷ 0 ∷ [] }
+    ∷ record { promised = answerAndMessage 0 noMessage; wrong = 0 ∷ 0 ∷ 1 ∷ 0 ∷ 0 ∷ 0 ∷ [] }
     -- message_is_sound: refuses a token of 0; takes a slot of 0
     ∷ record { promised = truth (messageSound (from0 3 1 0 NoSlot (token 0 0 0))); wrong = 0 ∷ [] }
     ∷ record { promised = truth (messageSound (from0 3 0 1 (slot 0 0 0) NoToken)); wrong = 1 ∷ [] }
@@ -109,26 +104,26 @@ wrongs =
     ∷ record { promised = truth (tokenSound (token 1 0 1) (record { 0 = 1 })); wrong = 1 ∷ [] }
     ∷ record { promised = truth (tokenSound (token 0 7 16000000001) (record { 0 = 1 })); wrong = 1 ∷ [] }
     -- receive: refuses everything; fills a second time
-    ∷ record { promised = flat (numbersOf (receiveOf asked pays)); wrong = 11 ∷ 0 ∷ 0 ∷ 0 ∷ 2 ∷ 0 ∷ 1 ∷ 0 ∷ 0 ∷ 5 ∷ [] }
-    ∷ record { promised = flat (numbersOf (receiveOf (receiveOf asked pays .station) pays)); wrong = 0 ∷ 5 ∷ 1 ∷ 0 ∷ 0 ∷ 12 ∷ 0 ∷ 1 ∷ [] }
+    ∷ record { promised = flat (outcomeNumbers (receiveOf asked pays)); wrong = 11 ∷ 0 ∷ 0 ∷ 0 ∷ 2 ∷ 0 ∷ 1 ∷ 0 ∷ 0 ∷ 5 ∷ [] }
+    ∷ record { promised = flat (outcomeNumbers (receiveOf (receiveOf asked pays .station) pays)); wrong = 0 ∷ 5 ∷ 1 ∷ 0 ∷ 0 ∷ 12 ∷ 0 ∷ 1 ∷ [] }
     -- read: swaps the two clocks; tells no length
-    ∷ record { promised = let r = readOf (recordOf pays) in r .result ∷ messageOf (r .answer) (r .message); wrong = 49 ∷ 0 ∷ 0 ∷ 1 ∷ 3 ∷ 0 ∷ 1 ∷ 0 ∷ 0 ∷ 5 ∷ [] }
-    ∷ record { promised = let r = readOf (recordOf pays) in r .result ∷ messageOf (r .answer) (r .message); wrong = 0 ∷ 0 ∷ 0 ∷ 1 ∷ 3 ∷ 1 ∷ 0 ∷ 0 ∷ 0 ∷ 5 ∷ [] }
+    ∷ record { promised = let r = readOf (recordOf pays) in r .result ∷ answerAndMessage (r .answer) (r .message); wrong = 49 ∷ 0 ∷ 0 ∷ 1 ∷ 3 ∷ 0 ∷ 1 ∷ 0 ∷ 0 ∷ 5 ∷ [] }
+    ∷ record { promised = let r = readOf (recordOf pays) in r .result ∷ answerAndMessage (r .answer) (r .message); wrong = 0 ∷ 0 ∷ 0 ∷ 1 ∷ 3 ∷ 1 ∷ 0 ∷ 0 ∷ 0 ∷ 5 ∷ [] }
     -- write: clears the byte past the record; writes into a buffer that is too short
     ∷ record {
-      promised = wrote (writeAnswer pays 50) (recordOf pays) (replicate 50 7);
+      promised = wrote (writeAnswer pays 50) (recordOf pays) (sevens 50);
       wrong = (0 ∷ 49 ∷ []) ++ recordOf pays ++ (0 ∷ []);
     }
-    ∷ record { promised = wrote (writeAnswer pays 48) (recordOf pays) (replicate 48 7); wrong = (14 ∷ 0 ∷ 1 ∷ []) ++ replicate 47 7 }
+    ∷ record { promised = wrote (writeAnswer pays 48) (recordOf pays) (sevens 48); wrong = (14 ∷ 0 ∷ 1 ∷ []) ++ sevens 47 }
     -- write_message: has a record for itself; tells no length
     ∷ record { promised = wrote (writeForAnswer gave 1 50) (recordOf (messageFor gave 1)) []; wrong = 0 ∷ 49 ∷ [] }
     ∷ record {
-      promised = wrote (writeForAnswer gave 0 49) (recordOf (messageFor gave 0)) (replicate 49 7);
+      promised = wrote (writeForAnswer gave 0 49) (recordOf (messageFor gave 0)) (sevens 49);
       wrong = (0 ∷ 0 ∷ []) ++ recordOf (messageFor gave 0);
     }
     -- receive_bytes: takes a record with a byte behind it; asks for a record before it asks for a
     -- sound station
-    ∷ record { promised = flat (numbersOf (receiveBytesOf asked (recordOf pays ++ (0 ∷ [])))); wrong = flat (numbersOf (receiveOf asked pays)) }
+    ∷ record { promised = flat (outcomeNumbers (receiveBytesOf asked (recordOf pays ++ (0 ∷ [])))); wrong = flat (outcomeNumbers (receiveOf asked pays)) }
     ∷ record { promised = stockOf (receiveBytesOf (blank 0 0) []); wrong = 9 ∷ 0 ∷ 0 ∷ 0 ∷ [] }
     -- station_is_sound: takes a station with a token for itself; refuses a value of 16,000,000,000
     ∷ record { promised = truth (stationSound (putSide (blank 1 2) 1 (record { value = 0; source = record { 0 = 1 }; destination = record { 0 = 0 }; slot = NoSlot; token = token 0 0 5 }))); wrong = 1 ∷ [] }
@@ -140,8 +135,8 @@ wrongs =
     ∷ record { promised = let s = blank 1 2 in s .number ∷ s .count ∷ s .value ∷ []; wrong = 2 ∷ 1 ∷ 0 ∷ [] }
     ∷ record { promised = let s = blank 1 2 in s .number ∷ s .count ∷ s .value ∷ []; wrong = 1 ∷ 2 ∷ 1 ∷ [] }
     -- no_report: names a rule; tells a quantity
-    ∷ record { promised = rulesOf noReport ++ (noReport .opened ∷ noReport .made ∷ []); wrong = 5 ∷ 0 ∷ 0 ∷ [] }
-    ∷ record { promised = rulesOf noReport ++ (noReport .opened ∷ noReport .made ∷ []); wrong = 0 ∷ 5 ∷ [] }
+    ∷ record { promised = rulesActed noReport ++ (noReport .opened ∷ noReport .made ∷ []); wrong = 5 ∷ 0 ∷ 0 ∷ [] }
+    ∷ record { promised = rulesActed noReport ++ (noReport .opened ∷ noReport .made ∷ []); wrong = 0 ∷ 5 ∷ [] }
     -- clocks_agree: looks at one clock only, the source clock or the destination clock
     ∷ record { promised = truth (meet (token 0 0 5) (slot 0 1 5)); wrong = 1 ∷ [] }
     ∷ record { promised = truth (meet (token 0 0 5) (slot 1 0 5)); wrong = 1 ∷ [] }

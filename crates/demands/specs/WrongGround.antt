@@ -4,7 +4,8 @@ use lib.IntN.{pos, negsuc}
 use Rattle.ground.specs.Clocks.{sourceInRange, sourceAbove, sourceSame, sourceBeforeEnd, sourceNext, destinationInRange, destinationAbove, destinationSame, destinationBeforeEnd, destinationNext}
 use Rattle.ground.specs.Half.{halfOf}
 use Rattle.ground.specs.Limits.{lastClock}
-use Rattle.demands.specs.Wrong.{Wrong, truth}
+use Rattle.demands.specs.Samples.{truth}
+use Rattle.demands.specs.Wrong.{Wrong}
 
 abbrev pub wrongGround : List Wrong
 wrongGround =

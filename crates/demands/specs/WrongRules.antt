@@ -15,8 +15,8 @@ use Rattle.demands.specs.Samples.{slot, slotNumbers}
 use Rattle.demands.specs.Wrong.{Wrong, pays}
 
 -- a side with this value that waits for 5
-abbrev waits : ℕ → Side
-waits value = record { value = value; source = record { 0 = 0 }; destination = record { 0 = 1 }; slot = slot 0 0 5; token = NoToken }
+abbrev pub waitingForFive : ℕ → Side
+waitingForFive value = record { value = value; source = record { 0 = 0 }; destination = record { 0 = 1 }; slot = slot 0 0 5; token = NoToken }
 
 -- answer, result, value, and the slot
 abbrev takenNumbers : Taken → List ℕ
@@ -32,8 +32,8 @@ oneAndThree = record { rule1 = true; rule2 = false; rule3 = true; rule4 = false;
 abbrev pub wrongRules : List Wrong
 wrongRules =
     -- take: leaves the slot that it fills; fills past the limit
-    record { promised = takenNumbers (takenOf (waits 2) pays); wrong = 0 ∷ 5 ∷ 7 ∷ 0 ∷ 0 ∷ 5 ∷ [] }
-    ∷ record { promised = takenNumbers (takenOf (waits 16000000000) pays); wrong = 0 ∷ 5 ∷ 16000000005 ∷ [] }
+    record { promised = takenNumbers (takenOf (waitingForFive 2) pays); wrong = 0 ∷ 5 ∷ 7 ∷ 0 ∷ 0 ∷ 5 ∷ [] }
+    ∷ record { promised = takenNumbers (takenOf (waitingForFive 16000000000) pays); wrong = 0 ∷ 5 ∷ 16000000005 ∷ [] }
     -- add_to: tells the amount; adds past the limit of the intake
     ∷ record { promised = stockNumbers (addedTo 3 3 4); wrong = 0 ∷ 4 ∷ 7 ∷ 7 ∷ [] }
     ∷ record { promised = stockNumbers (addedTo 0 mostIntake 1); wrong = 0 ∷ 1 ∷ 1 ∷ 1000000001 ∷ [] }

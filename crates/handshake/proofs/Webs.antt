@@ -11,7 +11,7 @@ use Rattle.handshake.specs.Channel.{Held, Event, quiet, departs, arrives
 use Rattle.handshake.specs.Clauses.{Spent}
 use Rattle.handshake.specs.Turn.{Turn}
 use Rattle.handshake.specs.History.{Transfer, transfer, Entry, departure, arrival, entries, at, In, Pairing}
-use Rattle.handshake.specs.Web.{Web, Letter, Shows, Holds, Moves, Present}
+use Rattle.handshake.specs.Web.{Web, Letter, LetterShows, Holds, Moves, Present}
 use Rattle.handshake.proofs.Keeps.{not-both, departed-by, arrived-by, standing-kept, giver-kept, receiver-kept, spent-kept, arrived-spent, spent-stays-out, giver-now, receiver-now}
 use Rattle.handshake.proofs.Histories.{at-one, in-front, in-back, in-either, pairing-none, pairing-departs, pairing-arrives}
 
@@ -111,7 +111,7 @@ module _ {P Q : Type 0} {W : Web P Q} where
     pairing = h .pairing;
   }
     where
-      sent : (m : Letter P Q) → Present W m → Shows W m
+      sent : (m : Letter P Q) → Present W m → LetterShows W m
       sent m p = record {
         gives = rw (p .source, p .token) (giver-now (h .standing (m .from) (m .to)));
         asks = rw (p .destination, p .slot) (receiver-now (h .standing (m .to) (m .from)));

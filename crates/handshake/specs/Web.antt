@@ -26,13 +26,13 @@ pub record Letter (P Q : Type 0) : Type 0 where
   pub token : Option (Held P)
 
 -- a letter is the giver's in one channel and the receiver's in the other
-pub record Shows {P Q : Type 0} (W : Web P Q) (m : Letter P Q) : Type 0 where
+pub record LetterShows {P Q : Type 0} (W : Web P Q) (m : Letter P Q) : Type 0 where
   pub gives : GiverShows (W (m .from) (m .to)) (m .source) (m .token)
   pub asks : ReceiverShows (W (m .to) (m .from)) (m .destination) (m .slot)
 
 pub record Holds {P Q : Type 0} (W : Web P Q) (Waits : Letter P Q → Type 0) (H : List (Entry P)) : Type 0 where
   pub standing : (g r : ℕ) → Standing (W g r)
-  pub shown : (m : Letter P Q) → Waits m → Shows W m
+  pub shown : (m : Letter P Q) → Waits m → LetterShows W m
   -- what departed has a source clock that its maker has passed
   pub departures : (g r : ℕ) (t : Held P) → In (departure (transfer g r t)) H → t .source < W g r .source
   -- what arrived will not arrive again

@@ -10,7 +10,7 @@ use Rattle.rules.specs.declared.side.Side.{Side}
 use Rattle.rules.specs.declared.rules.Ruled.{Ruled}
 use Rattle.rules.specs.Half.{halfAbove}
 use Rattle.rules.specs.Rules.{fill, dropSlot, dropSlotBy, openSlotBy, dropToken, makeToken}
-use Rattle.rules.specs.Taking.{reported, takeOf}
+use Rattle.rules.specs.Taking.{reported, fiveRules}
 
 drop-slot-value-by : (x : Side) (m : Message) (h : HeldSlot) → dropSlotBy x m h .side .value ≡ x .value
 drop-slot-value-by x m NoSlot = refl
@@ -22,6 +22,6 @@ drop-slot-value x m = drop-slot-value-by x m (x .slot)
 
 pub taken : (x : Side) (m : Message) (one two three four five : Ruled) {h : ℕ} → one ≡ fill x m → two ≡ dropSlot (one .side) m
     → h ≡ halfAbove (m .value) (two .side .value) → three ≡ openSlotBy (two .side) m h (two .side .slot)
-    → four ≡ dropToken (three .side) m → five ≡ makeToken (four .side) m → reported one two three four five ≡ takeOf x m
-unfolding takeOf
+    → four ≡ dropToken (three .side) m → five ≡ makeToken (four .side) m → reported one two three four five ≡ fiveRules x m
+unfolding fiveRules
 taken x m one two three four five e1 e2 eh e3 e4 e5 = cc

@@ -14,7 +14,7 @@ use Rattle.ground.specs.Limits.{mostAmount, mostIntake, mostValue}
 use Rattle.ground.specs.Answers.{notSound, badAmount, tooFew}
 use Rattle.ground.specs.Refusals.{answerOf}
 use Rattle.rules.specs.Rules.{fill}
-use Rattle.rules.specs.Taking.{tokenSmall, messageSmall, tokenFits, takeOf, takeRefusals, takeAnswer, takenOf, Takes}
+use Rattle.rules.specs.Taking.{tokenSmall, messageSmall, TokenInRange, fiveRules, takeRefusals, takeAnswer, takenOf, Takes}
 use Rattle.rules.specs.Stock.{stockSound, amountSound, addToRefusals, addToAnswer, addDone, addedTo, drawFromRefusals, drawFromAnswer, drawDone, drawnFrom, refusedStock}
 use Rattle.ground.proofs.Tests.{both-hold}
 use Rattle.ground.proofs.Refusing.{passed}
@@ -53,23 +53,23 @@ module _ (value intake amount : ℕ) where
 
 -- what was taken tells the answer that was found
 pub take-tells : (x : Side) (m : Message) → takenOf x m .answer ≡ answerOf (takeRefusals x m)
-unfolding takenOf takeOf
-take-tells x m = answer-told (λ (t : Taken). t .answer) (takeAnswer x m) (takeOf x m) _ refl refl
+unfolding takenOf fiveRules
+take-tells x m = answer-told (λ (t : Taken). t .answer) (takeAnswer x m) (fiveRules x m) _ refl refl
 
-pub take-done : (x : Side) (m : Message) → takeAnswer x m ≡ 0 → takenOf x m ≡ takeOf x m
+pub take-done : (x : Side) (m : Message) → takeAnswer x m ≡ 0 → takenOf x m ≡ fiveRules x m
 unfolding takenOf
-take-done x m e = sym (when-done (takeOf x m) _ e)
+take-done x m e = sym (when-done (fiveRules x m) _ e)
 
-pub small-fits : (h : HeldToken) → tokenSmall h ≡ true → tokenFits h
+pub small-fits : (h : HeldToken) → tokenSmall h ≡ true → TokenInRange h
 small-fits NoToken e = tt
 small-fits (OneToken t) e = leb-true _ _ e
 
 -- the rules may take what is not refused
 pub takes : (x : Side) (m : Message) → takeAnswer x m ≡ 0 → Takes x m
 takes x m e =
-    let one = passed (ltb mostValue (x .value)) 0 e in
-    let two = passed (not (messageSmall m)) 8 (one .1) in
-    let three = passed (ltb mostValue (fill x m .side .value)) 9 (two .1) in
+    let one = passed (ltb mostValue (x .value)) _ e in
+    let two = passed (not (messageSmall m)) _ (one .1) in
+    let three = passed (ltb mostValue (fill x m .side .value)) _ (two .1) in
     let small = both-hold (leb (m .value) mostValue) _ (not-false (messageSmall m) (two .0)) in
     record {
       value = ltb-false _ _ (one .0);
@@ -85,8 +85,8 @@ pub record Added (v i amount : ℕ) : Type 0 where
 
 pub added : (value intake amount : ℕ) → addToAnswer value intake amount ≡ 0 → Added value intake amount
 added value intake amount e =
-    let one = passed (not (stockSound value intake)) 0 e in
-    let two = passed (not (amountSound amount)) 3 (one .1) in
-    let three = passed (ltb mostIntake (intake + amount)) 4 (two .1) in
-    let four = passed (ltb mostValue (value + amount)) 9 (three .1) in
+    let one = passed (not (stockSound value intake)) _ e in
+    let two = passed (not (amountSound amount)) _ (one .1) in
+    let three = passed (ltb mostIntake (intake + amount)) _ (two .1) in
+    let four = passed (ltb mostValue (value + amount)) _ (three .1) in
     record { value = ltb-false _ _ (four .0); intake = ltb-false _ _ (three .0) }

@@ -18,7 +18,7 @@ use Rattle.rules.specs.declared.side.Side.{Side}
 use Rattle.rules.specs.declared.rules.Ruled.{Ruled}
 use Rattle.ground.specs.Limits.{lastClock}
 use Rattle.rules.specs.Rules.{fill, dropSlot, openSlot, destinationShownBy, destinationShown, dropTokenBy, makeTokenBy}
-use Rattle.rules.specs.Taking.{takeOf}
+use Rattle.rules.specs.Taking.{fiveRules}
 use Rattle.ground.proofs.Choices.{chosen}
 
 -- a held token that is not older than a clock
@@ -38,15 +38,15 @@ made x m (OneSlot l) w =
     chosen (λ (r : Ruled). NotOlder (l .destination) (r .side .token)) (eqb (l .source .0) (x .source .0) && ltb (x .source .0) lastClock) _ _ (λ f. omega arith)
     (λ f. w)
 
-taken : (x : Side) (m : Message) → NotOlder (destinationShown m) (takeOf x m .side .token)
-unfolding takeOf
+taken : (x : Side) (m : Message) → NotOlder (destinationShown m) (fiveRules x m .side .token)
+unfolding fiveRules
 taken x m =
     let three = openSlot (dropSlot (fill x m .side) m .side) m .side in
     made (dropTokenBy three (destinationShown m) (three .token) .side) m (m .slot) (dropped three (destinationShown m) (three .token) refl)
 
 module _ (x : Side) (m : Message) (t : Token) where
-  pub none-before-slot : (l : Slot) → m .slot ≡ OneSlot l → takeOf x m .side .token ≡ OneToken t → l .destination .0 ≤ t .destination .0
+  pub none-before-slot : (l : Slot) → m .slot ≡ OneSlot l → fiveRules x m .side .token ≡ OneToken t → l .destination .0 ≤ t .destination .0
   none-before-slot l shown held = let h = taken x m in rw (held, shown) at h
 
-  pub none-before-clock : m .slot ≡ NoSlot → takeOf x m .side .token ≡ OneToken t → m .destination .0 ≤ t .destination .0
+  pub none-before-clock : m .slot ≡ NoSlot → fiveRules x m .side .token ≡ OneToken t → m .destination .0 ≤ t .destination .0
   none-before-clock shown held = let h = taken x m in rw (held, shown) at h

@@ -36,8 +36,8 @@ reported one two three four five =
       side = five .side;
     }
 
-unfoldable pub takeOf : Side → Message → Taken
-takeOf x m =
+unfoldable pub fiveRules : Side → Message → Taken
+fiveRules x m =
     let one = fill x m in
     let two = dropSlot (one .side) m in
     let three = openSlot (two .side) m in
@@ -69,15 +69,15 @@ abbrev pub refusedTaking : ℕ → Side → Taken
 refusedTaking answer x = record { answer = answer; result = 0; report = noReport; side = x }
 
 unfoldable pub takenOf : Side → Message → Taken
-takenOf x m = ifDone (takeAnswer x m) (takeOf x m) (refusedTaking (takeAnswer x m) x)
+takenOf x m = ifDone (takeAnswer x m) (fiveRules x m) (refusedTaking (takeAnswer x m) x)
 
 -- the same range, as what the sums and differences of the rules ask for
-abbrev pub tokenFits : HeldToken → Type 0
-tokenFits NoToken = Unit {0}
-tokenFits (OneToken t) = t .quantity ≤ mostValue
+abbrev pub TokenInRange : HeldToken → Type 0
+TokenInRange NoToken = Unit {0}
+TokenInRange (OneToken t) = t .quantity ≤ mostValue
 
 pub record Takes (x : Side) (m : Message) : Type 0 where
   pub value : x .value ≤ mostValue
   pub shown : m .value ≤ mostValue
-  pub token : tokenFits (m .token)
+  pub token : TokenInRange (m .token)
   pub room : fill x m .side .value ≤ mostValue

@@ -1,7 +1,7 @@
 // What the five rules did.
 ghost use mathlib.Core.Path.{_≡_};
 ghost use Prim.Native.Nat.{_≤_};
-ghost use Rattle.rules.specs.Report.{noReport, rulesOf, weight};
+ghost use Rattle.rules.specs.Report.{noReport, rulesOf, numberIfActed};
 
 // Which of the five rules acted, the quantity of a slot opened and that of a token made.
 pub struct Report {
@@ -30,7 +30,7 @@ pub fn no_report() -> Report
 }
 
 fn weight(acted: bool, n: u64) -> u64
-    ensures { λ r. ⌜ (r ≡ weight acted n) × (r ≤ n) ⌝ }
+    ensures { λ r. ⌜ (r ≡ numberIfActed acted n) × (r ≤ n) ⌝ }
 {
     if acted {
         return n;

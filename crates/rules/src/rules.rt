@@ -4,7 +4,7 @@ ghost use Prim.Native.Nat.{_+_, _≤_, _<_, min};
 ghost use Rattle.ground.specs.Limits.{mostValue};
 ghost use Rattle.ground.specs.Clocks.{destinationAbove};
 ghost use Rattle.rules.specs.Rules.{acts, rests, agree, fill, dropSlot, openSlotBy, destinationShown, dropToken, give, makeToken};
-ghost use Rattle.rules.specs.Taking.{tokenFits};
+ghost use Rattle.rules.specs.Taking.{TokenInRange};
 use crate::held::HeldSlot;
 use crate::held::HeldToken;
 use crate::held::Slot;
@@ -56,7 +56,7 @@ pub fn clocks_agree(t: Token, l: Slot) -> bool
 }
 
 pub(crate) fn rule1_fill(x: Side, m: Message) -> Ruled
-    requires { ⌜ (x .value ≤ mostValue) × tokenFits (m .token) ⌝ }
+    requires { ⌜ (x .value ≤ mostValue) × TokenInRange (m .token) ⌝ }
     ensures { λ r. ⌜ r ≡ fill x m ⌝ }
 {
     let shown = m.token;

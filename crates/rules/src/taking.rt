@@ -1,6 +1,6 @@
 // Taking a message: the five rules in order, each at what the earlier ones left.
 ghost use mathlib.Core.Path.{_≡_};
-ghost use Rattle.rules.specs.Taking.{tokenSmall, takeAnswer, takeOf, takenOf, Takes};
+ghost use Rattle.rules.specs.Taking.{tokenSmall, takeAnswer, fiveRules, takenOf, Takes};
 use crate::half::half_above;
 use crate::held::HeldToken;
 use crate::message::Message;
@@ -53,7 +53,7 @@ fn take_answer(x: Side, m: Message) -> u8
 
 fn five_rules(x: Side, m: Message) -> Taken
     requires { ⌜ Takes x m ⌝ }
-    ensures { λ r. ⌜ r ≡ takeOf x m ⌝ }
+    ensures { λ r. ⌜ r ≡ fiveRules x m ⌝ }
 {
     let one = rule1_fill(x, m);
     let first = one.side;

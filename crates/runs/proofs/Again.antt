@@ -5,9 +5,9 @@ use mathlib.Core.Path.{_≡_, refl, ap, sym}
 use mathlib.Core.Bool.{false≢true}
 use Rattle.ground.specs.Below.{allBelow}
 use Rattle.station.specs.Sound.{stationSound, messageSound}
-use Rattle.rules.specs.Taking.{takeOf}
+use Rattle.rules.specs.Taking.{fiveRules}
 use Rattle.station.specs.Steps.{addOf, showOf, receiveOf}
-use Rattle.table.specs.Fresh.{seatsTo, freshOf}
+use Rattle.table.specs.Fresh.{seatsTo, freshTableOf}
 use Rattle.table.specs.Sound.{tableSound}
 use Rattle.steps.specs.Steps.{stepOf}
 use Rattle.table.specs.Table.{stationAt, waitingAt}
@@ -17,21 +17,21 @@ use Rattle.steps.specs.declared.asked.Step.the-variants.{Deliver}
 use Rattle.table.specs.declared.stepped.Stepped.{Stepped}
 use Rattle.table.specs.declared.table.Table.{Table}
 use Rattle.runs.specs.Runs.{tableAfter}
-use Rattle.runs.specs.Again.{hello, atFirst, atAgain, opens, nod}
+use Rattle.runs.specs.Again.{tenShown, atFirst, atAgain, opens, nod}
 
 -- the message at place 0 opens a slot of 5 where it is delivered first, and one of 2 where it is
 -- delivered again
 pub record ActsAgain (first again : Table) : Type 0 where
-  pub first-message : waitingAt first 0 ≡ One hello
+  pub first-message : waitingAt first 0 ≡ One tenShown
   pub first-report : stepOf first (Deliver 0) .report ≡ opens 5
-  pub again-message : waitingAt again 0 ≡ One hello
+  pub again-message : waitingAt again 0 ≡ One tenShown
   pub again-answer : stepOf again (Deliver 0) .answer ≡ 0
   pub again-report : stepOf again (Deliver 0) .report ≡ opens 2
   pub again-clock : stationAt (stepOf again (Deliver 0) .table) 1 .destination .0 ≡ 2
   pub no-nod : stepOf again (Deliver 0) ≡ nod again → ⊥
 
 pub acts-again : ActsAgain atFirst atAgain
-unfolding addOf showOf receiveOf takeOf stationSound messageSound allBelow firstFrom tableSound seatsTo freshOf stepOf tableAfter
+unfolding addOf showOf receiveOf fiveRules stationSound messageSound allBelow firstFrom tableSound seatsTo freshTableOf stepOf tableAfter
 acts-again =
     record {
       first-message = refl;

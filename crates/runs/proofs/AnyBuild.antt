@@ -18,13 +18,13 @@ use Rattle.station.specs.Sound.{countSound}
 use Rattle.ground.proofs.Tests.{needed}
 use Rattle.rules.specs.declared.held.HeldToken.the-variants.{OneToken}
 use Rattle.rules.specs.declared.held.Token.{Token}
-use Rattle.table.specs.Fresh.{freshOf}
+use Rattle.table.specs.Fresh.{freshTableOf}
 use Rattle.table.specs.Sound.{tableSound}
 use Rattle.table.specs.Table.{stationAt}
 use Rattle.steps.specs.declared.asked.Step.{Step}
 use Rattle.table.specs.declared.table.Table.{Table}
 use Rattle.runs.specs.Demand3.{Demand3, waitsFor}
-use Rattle.runs.specs.Runs.{Build, Line, lineOf, logOf, tableAfter, addedBy, drawnBy, added, drawn, entriesBy, historyOf, amounting}
+use Rattle.runs.specs.Runs.{Build, Line, logLine, logOf, tableAfter, amountAdded, amountDrawn, allAdded, allDrawn, entriesBy, historyOf, amounting}
 use Rattle.runs.proofs.FreshReached.{fresh-reached}
 use Rattle.runs.proofs.Refused.{Plain, StepGoes}
 use Rattle.runs.proofs.Reached.{Reached, Goes, goes-on}
@@ -40,8 +40,8 @@ stale {t} r i j k e f =
     stale-spent (r .holds .standing i j) token (ap tokenSeen e)
     (λ o. misfit (OneToken k) (slotFor (stationAt t j) i) f token (o .slot) refl (o .stands) (o .source) (o .destination))
 
-fresh-count : (count : ℕ) → freshOf count .answer ≡ done → countSound count ≡ true
-unfolding freshOf
+fresh-count : (count : ℕ) → freshTableOf count .answer ≡ done → countSound count ≡ true
+unfolding freshTableOf
 fresh-count count e = needed (countSound count) (λ f. let z : _≡_ {A = ℕ} 1 0 = rw f at e in absurd (omega arith))
 
 -- what each step of a build has to show
@@ -52,24 +52,24 @@ pub record EachStep (build : Build) : Type 0 where
 module _ {build : Build} (each : EachStep build) where
   module _ {t : Table} {H : List (Entry ℕ)} {plus minus : ℕ} (r : Reached t H plus minus) (step : Step) where
     abbrev line : Line
-    line = lineOf t step (build t step)
+    line = logLine t step (build t step)
 
     abbrev made : List (Entry ℕ)
     made = entriesBy (line .delivered) (line .result) (line .report)
 
-    step-goes : Goes t (build t step .table) H made (addedBy step (line .answer)) (drawnBy step (line .result))
+    step-goes : Goes t (build t step .table) H made (amountAdded step (line .answer)) (amountDrawn step (line .result))
     step-goes = each .goes r step .goes
 
     step-plain : Plain (line .answer)
     step-plain = each .goes r step .answer
 
-    step-reached : Reached (build t step .table) (H ++ made) (plus + addedBy step (line .answer)) (minus + drawnBy step (line .result))
+    step-reached : Reached (build t step .table) (H ++ made) (plus + amountAdded step (line .answer)) (minus + amountDrawn step (line .result))
     step-reached = goes-on r step-goes (each .keeps t step (r .sound))
 
   -- all steps
   run-reached : (steps : List Step) {t : Table} {H : List (Entry ℕ)} {plus minus : ℕ} → Reached t H plus minus
-      → let log = logOf build t steps in Reached (tableAfter build t steps) (H ++ historyOf log) (plus + added log) (minus + drawn log)
-  unfolding logOf tableAfter added drawn historyOf
+      → let log = logOf build t steps in Reached (tableAfter build t steps) (H ++ historyOf log) (plus + allAdded log) (minus + allDrawn log)
+  unfolding logOf tableAfter allAdded allDrawn historyOf
   run-reached [] {plus = plus} {minus = minus} r = rw (append-nil, add-zero plus, add-zero minus) r
   run-reached (step ∷ steps) r = rw (append-assoc, add-assoc, add-assoc) at (run-reached steps (step-reached r step))
 
@@ -90,7 +90,7 @@ module _ {build : Build} (each : EachStep build) where
       ⊎-elim (step-goes r step .passage .stays-out x s) (run-stays-out steps (step-reached r step) x after)
       (in-either (made r step) (historyOf (logOf build (build t step .table) steps)) i)
 
-  pub by-each-step : (count : ℕ) → freshOf count .answer ≡ done → Demand3 build (freshOf count .table)
+  pub by-each-step : (count : ℕ) → freshTableOf count .answer ≡ done → Demand3 build (freshTableOf count .table)
   by-each-step count e =
       let start = fresh-reached count (fresh-count count e) in
       record {

@@ -15,7 +15,7 @@ use Rattle.ground.specs.Limits.{mostValue}
 use Rattle.rules.specs.Rules.{fill}
 use Rattle.station.specs.Side.{sideFor, putSide}
 use Rattle.station.specs.Steps.{putStock}
-use Rattle.rules.specs.Taking.{takeOf}
+use Rattle.rules.specs.Taking.{fiveRules}
 use Rattle.rules.specs.declared.message.Message.{Message}
 use Rattle.rules.specs.declared.side.Side.{Side}
 use Rattle.station.specs.declared.station.Station.{Station}
@@ -106,10 +106,10 @@ module _ {t : Table} {H : List (Entry ℕ)} {plus minus : ℕ} (r : Reached t H 
         let v = sum-term (λ k. stationAt t k .value) (t .count) (m .to) to in
         omega (arith, filled before m .1, way-seen t, enough-room r, a .0, a .1)
 
-    pub taken-goes : let x = takeOf before m in
+    pub taken-goes : let x = fiveRules before m in
         Goes t (putStation t (m .to) (putSide taker (m .from) (x .side))) H (entriesBy (One m) (x .result) (x .report)) 0 0
     taken-goes =
-        let x = takeOf before m in
+        let x = fiveRules before m in
         let s = putSide taker (m .from) (x .side) in
         let lengths = r .full .each (m .to) to in
         let most = table-parts t (r .sound) .most in

@@ -16,7 +16,7 @@ use Rattle.station.proofs.Parts.{message-parts}
 use Rattle.pool.specs.Pool.{mostPlaces, isEmpty}
 use Rattle.table.specs.Table.{stationAt, waitingAt}
 use Rattle.table.specs.Sound.{tableSound}
-use Rattle.steps.specs.Steps.{delivered, overfills, stepRefusals, stepDone, stepOf}
+use Rattle.steps.specs.Steps.{deliverStep, overfills, stepRefusals, stepDone, stepOf}
 use Rattle.pool.specs.declared.places.Waiting.{Waiting}
 use Rattle.pool.specs.declared.places.Waiting.the-variants.{Empty, One}
 use Rattle.steps.specs.declared.asked.Step.the-variants.{Deliver}
@@ -39,7 +39,7 @@ module _ {t : Table} {H : List (Entry ℕ)} {plus minus : ℕ} (r : Reached t H 
       rw (le-ltb mostValue (fill (sideFor (stationAt t (m .to)) (m .from)) m .side .value) (fill-fits r p m e (shows .other) (there .from) (there .to))) (plain 0 refl)
 
   taken : p < mostPlaces → (v : Waiting) → waitingAt t p ≡ v → answerOf (when (isEmpty v) 8 ∷ when (overfills t v) 10 ∷ []) ≡ 0
-      → StepGoes t (Deliver p) H (delivered t v)
+      → StepGoes t (Deliver p) H (deliverStep t v)
   taken h Empty e z = absurd (omega arith)
   taken h (One m) e z =
       let there = waits m (t .count) (rw e at (table-parts t (r .sound) .places p h)) in
@@ -54,6 +54,6 @@ module _ {t : Table} {H : List (Entry ℕ)} {plus minus : ℕ} (r : Reached t H 
       (plain-first (not (ltb p mostPlaces)) 7 _ (plain 7 refl)
       (λ h. plain-first (isEmpty (waitingAt t p)) 8 _ (plain 8 refl) (λ e. fits (here h) (waitingAt t p) refl))))
       (λ z.
-      let one = passed (not (tableSound t)) 0 z in
-      let two = passed (not (ltb p mostPlaces)) 6 (one .1) in
+      let one = passed (not (tableSound t)) _ z in
+      let two = passed (not (ltb p mostPlaces)) _ (one .1) in
       taken (here (two .0)) (waitingAt t p) refl (two .1))

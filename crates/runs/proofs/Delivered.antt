@@ -12,7 +12,7 @@ use Rattle.handshake.proofs.Ends.{end-in, end-out, takes, gives}
 use Rattle.handshake.proofs.Passages.{Passage, next, quietly}
 use Rattle.rules.specs.Half.{halfAbove}
 use Rattle.rules.specs.Rules.{fill, dropSlot, openSlot, dropToken, makeToken}
-use Rattle.rules.specs.Taking.{takeOf}
+use Rattle.rules.specs.Taking.{fiveRules}
 use Rattle.ground.specs.declared.clocks.SourceClock.{SourceClock}
 use Rattle.ground.specs.declared.clocks.DestinationClock.{DestinationClock}
 use Rattle.rules.specs.declared.held.HeldSlot.{HeldSlot}
@@ -97,8 +97,8 @@ module _ (start W : Web ℕ ℕ) (Waits : Letter ℕ ℕ → Type 0) (H : List (
         (next z (gives W (m .to) (m .from) (endOf x) (endOf (makeToken x m .side)) apart (ap (λ (k : DestinationClock). k .0) (a .destination)) (ap slotSeen (a .slot)) turn) to from)
 
   -- all five
-  pub taken-stage : (x : Side) → Stage x [] → let r = takeOf x m in Stage (r .side) (entriesBy (One m) (r .result) (r .report))
-  unfolding takeOf
+  pub taken-stage : (x : Side) → Stage x [] → let r = fiveRules x m in Stage (r .side) (entriesBy (One m) (r .result) (r .report))
+  unfolding fiveRules
   taken-stage x z =
       let one = fill x m .side in
       let two = dropSlot one m .side in

@@ -5,7 +5,7 @@ use mathlib.Core.Path.{_≡_}
 use mathlib.Core.List.{List}
 use Rattle.handshake.specs.History.{Entry}
 use Rattle.ground.specs.Answers.{done}
-use Rattle.table.specs.Fresh.{freshOf}
+use Rattle.table.specs.Fresh.{freshTableOf}
 use Rattle.steps.specs.Steps.{stepOf}
 use Rattle.steps.specs.declared.asked.Step.{Step}
 use Rattle.steps.specs.declared.asked.Step.the-variants.{Add, Draw, Send, Deliver, Lose}
@@ -27,5 +27,5 @@ by-step r (Send from to) = send-goes r from to
 by-step r (Deliver p) = deliver-goes r p
 by-step r (Lose p) = lose-goes r p
 
-pub demand3 : (count : ℕ) → freshOf count .answer ≡ done → Demand3 stepOf (freshOf count .table)
+pub demand3 : (count : ℕ) → freshTableOf count .answer ≡ done → Demand3 stepOf (freshTableOf count .table)
 demand3 = by-each-step (record { goes = by-step; keeps = step-keeps })

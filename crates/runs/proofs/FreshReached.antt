@@ -20,7 +20,7 @@ use Rattle.station.specs.declared.held.TokenCell.{TokenCell}
 use Rattle.rules.specs.declared.message.Message.{Message}
 use Rattle.station.specs.declared.station.Station.{Station}
 use Rattle.ground.proofs.Stores.{stored}
-use Rattle.table.specs.Fresh.{seatsTo, blankTable, freshOf}
+use Rattle.table.specs.Fresh.{seatsTo, blankTable, freshTableOf}
 use Rattle.pool.specs.Pool.{mostPlaces}
 use Rattle.table.specs.Table.{stationAt, waitingAt}
 use Rattle.table.specs.Way.{between, onTheWay}
@@ -70,7 +70,7 @@ module _ (count : ℕ) (sound : countSound count ≡ true) where
   bare k = seats-bare count count k (record { value = refl; intake = refl; slot = λ k. refl; token = λ k. refl })
 
   blank-sound : tableSound (blankTable count) ≡ true
-  unfolding freshOf
+  unfolding freshTableOf
   blank-sound = rw sound at (fresh-table-sound count sound)
 
   seat-full : (k : ℕ) → k < count → FullStation (stationAt (blankTable count) k)
@@ -85,8 +85,8 @@ module _ (count : ℕ) (sound : countSound count ≡ true) where
       let z : _≡_ {A = ℕ} 0 1 = cc in
       omega arith
 
-  pub fresh-reached : Reached (freshOf count .table) [] 0 0
-  unfolding freshOf departed arrived
+  pub fresh-reached : Reached (freshTableOf count .table) [] 0 0
+  unfolding freshTableOf departed arrived
   fresh-reached =
       rw sound
       (record {

@@ -8,7 +8,7 @@ use lib.Dec.{eqb, ltb, leb}
 use Rattle.rules.specs.Half.{halfAbove}
 use Rattle.ground.specs.Limits.{lastClock}
 use Rattle.rules.specs.Rules.{agree, fillBy, dropSlotBy, openSlotBy, destinationShown, dropTokenBy, makeTokenBy, fill, dropSlot, openSlot, dropToken, makeToken}
-use Rattle.rules.specs.Taking.{takeOf}
+use Rattle.rules.specs.Taking.{fiveRules}
 use Rattle.ground.specs.declared.clocks.DestinationClock.{DestinationClock}
 use Rattle.rules.specs.declared.held.HeldSlot.{HeldSlot}
 use Rattle.rules.specs.declared.held.HeldSlot.the-variants.{NoSlot, OneSlot}
@@ -88,8 +88,8 @@ module _ (x : Side) (m : Message) where
   token-made = make-token-by x (m .slot)
 
 -- the value after all five, with what was made, is the value before with what was filled
-pub taken-value : (x : Side) (m : Message) → takeOf x m .side .value + takeOf x m .report .made ≡ x .value + takeOf x m .result
-unfolding takeOf
+pub taken-value : (x : Side) (m : Message) → fiveRules x m .side .value + fiveRules x m .report .made ≡ x .value + fiveRules x m .result
+unfolding fiveRules
 taken-value x m =
     let one = fill x m in
     let two = dropSlot (one .side) m in

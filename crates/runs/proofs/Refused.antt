@@ -21,7 +21,7 @@ use Rattle.steps.specs.declared.asked.Step.{Step}
 use Rattle.steps.specs.declared.asked.Step.the-variants.{Add, Draw, Send, Deliver, Lose}
 use Rattle.table.specs.declared.stepped.Stepped.{Stepped}
 use Rattle.table.specs.declared.table.Table.{Table}
-use Rattle.runs.specs.Runs.{messageIn, addedBy, drawnBy, arrivalBy, departureBy, entriesBy}
+use Rattle.runs.specs.Runs.{messageDelivered, amountAdded, amountDrawn, arrivalBy, departureBy, entriesBy}
 use Rattle.runs.proofs.Reached.{Reached, Goes}
 use Rattle.runs.proofs.Changes.{nothing-goes}
 
@@ -31,7 +31,7 @@ Plain n = (n ≢ notSound) × (n ≢ valueLimit)
 
 -- what a step comes to in a run
 pub record StepGoes (t : Table) (step : Step) (H : List (Entry ℕ)) (s : Stepped) : Type 0 where
-  pub goes : Goes t (s .table) H (entriesBy (messageIn t step) (s .result) (s .report)) (addedBy step (s .answer)) (drawnBy step (s .result))
+  pub goes : Goes t (s .table) H (entriesBy (messageDelivered t step) (s .result) (s .report)) (amountAdded step (s .answer)) (amountDrawn step (s .result))
   pub answer : Plain (s .answer)
 
 -- a refusal makes no entry, adds nothing and draws nothing
@@ -45,14 +45,14 @@ no-entries (One m) = both (m .token) (m .slot)
     both (OneToken t) NoSlot = refl
     both (OneToken t) (OneSlot l) = refl
 
-adds-nothing : (step : Step) (n : ℕ) → addedBy step (suc n) ≡ 0
+adds-nothing : (step : Step) (n : ℕ) → amountAdded step (suc n) ≡ 0
 adds-nothing (Add k amount) n = rw (ne-eqb (suc n) 0 (λ e. omega arith))
 adds-nothing (Draw k amount) n = refl
 adds-nothing (Send from to) n = refl
 adds-nothing (Deliver p) n = refl
 adds-nothing (Lose p) n = refl
 
-draws-nothing : (step : Step) → drawnBy step 0 ≡ 0
+draws-nothing : (step : Step) → amountDrawn step 0 ≡ 0
 draws-nothing (Add k amount) = refl
 draws-nothing (Draw k amount) = refl
 draws-nothing (Send from to) = refl
@@ -73,4 +73,4 @@ module _ {t : Table} {H : List (Entry ℕ)} {plus minus : ℕ} (r : Reached t H 
   pub by-answer : (step : Step) (n : ℕ) (d : Stepped) → Plain n → (n ≡ 0 → StepGoes t step H d) → StepGoes t step H (answeredStep n t d)
   by-answer step zero d a f = f refl
   by-answer step (suc n) d a f =
-      record { goes = rw (no-entries (messageIn t step), adds-nothing step n, draws-nothing step) (nothing-goes r); answer = a }
+      record { goes = rw (no-entries (messageDelivered t step), adds-nothing step n, draws-nothing step) (nothing-goes r); answer = a }

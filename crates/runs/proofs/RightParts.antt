@@ -11,7 +11,7 @@ use Rattle.ground.specs.Sums.{sumBelow}
 use Rattle.ground.specs.Below.{allBelow}
 use Rattle.station.specs.Sound.{stationSound, messageSound}
 use Rattle.rules.specs.Stock.{amountSound}
-use Rattle.rules.specs.Taking.{takeOf}
+use Rattle.rules.specs.Taking.{fiveRules}
 use Rattle.station.specs.Steps.{addOf, drawOf, showOf, receiveOf}
 use Rattle.pool.specs.declared.places.Waiting.{Waiting}
 use Rattle.pool.specs.declared.places.Waiting.the-variants.{Empty, One}
@@ -22,16 +22,16 @@ use Rattle.table.specs.declared.table.Table.{Table}
 use Rattle.ground.specs.First.{firstFrom}
 use Rattle.table.specs.Table.{stationAt, waitingAt}
 use Rattle.table.specs.Sound.{tableSound}
-use Rattle.table.specs.Fresh.{seatsTo, freshOf}
+use Rattle.table.specs.Fresh.{seatsTo, freshTableOf}
 use Rattle.table.specs.Stepped.{answeredStep}
-use Rattle.steps.specs.Steps.{delivered, stepDone, stepOf}
+use Rattle.steps.specs.Steps.{deliverStep, stepDone, stepOf}
 use Rattle.table.specs.Way.{atStations, onTheWay}
-use Rattle.runs.specs.Runs.{logOf, tableAfter, added, drawn, historyOf, amounting}
+use Rattle.runs.specs.Runs.{logOf, tableAfter, allAdded, allDrawn, historyOf, amounting}
 use Rattle.runs.specs.Builds.{rightTaking, rightDrawing, deliveredBy, builtWith, deliversBy, deliversUnasked, drawsBy, drawsFewBy, toldFew, rightFew}
 use Rattle.runs.specs.Broken.{oldToken, slotAgain, tokenComes, tokenOfNothing, nothingAgain, partDrawn, overdrawn}
 
-pub delivers-right : (t : Table) (w : Waiting) → deliveredBy rightTaking t w ≡ delivered t w
-unfolding takeOf
+pub delivers-right : (t : Table) (w : Waiting) → deliveredBy rightTaking t w ≡ deliverStep t w
+unfolding fiveRules
 delivers-right t Empty = refl
 delivers-right t (One m) = refl
 
@@ -68,24 +68,24 @@ right-few t (Lose p) = refl
 -- the passes that are there and those drawn, and all that were added
 abbrev balanceOf : List Step → List ℕ
 balanceOf steps =
-    let t = tableAfter stepOf (freshOf 2 .table) steps in
-    let log = logOf stepOf (freshOf 2 .table) steps in
-    (atStations t + onTheWay t + drawn log) ∷ added log ∷ []
+    let t = tableAfter stepOf (freshTableOf 2 .table) steps in
+    let log = logOf stepOf (freshTableOf 2 .table) steps in
+    (atStations t + onTheWay t + allDrawn log) ∷ allAdded log ∷ []
 
 pub right-balances : map balanceOf (oldToken ∷ slotAgain ∷ tokenComes ∷ nothingAgain ∷ partDrawn ∷ overdrawn ∷ [])
     ≡ (10 ∷ 10 ∷ []) ∷ (10 ∷ 10 ∷ []) ∷ (10 ∷ 10 ∷ []) ∷ (10 ∷ 10 ∷ []) ∷ (10 ∷ 10 ∷ []) ∷ (10 ∷ 10 ∷ []) ∷ []
-unfolding addOf drawOf showOf receiveOf takeOf stationSound messageSound allBelow firstFrom tableSound seatsTo freshOf stepOf sumBelow logOf tableAfter added drawn
+unfolding addOf drawOf showOf receiveOf fiveRules stationSound messageSound allBelow firstFrom tableSound seatsTo freshTableOf stepOf sumBelow logOf tableAfter allAdded allDrawn
 right-balances = refl
 
 -- the token of 0 departs once, also where no soundness is asked, and leaves a sound table
-pub right-departs-once : historyOf (logOf stepOf (freshOf 2 .table) nothingAgain) ≡ departure (transfer 0 1 (amounting 0 0 0)) ∷ []
-unfolding addOf drawOf showOf receiveOf takeOf stationSound messageSound allBelow firstFrom tableSound seatsTo freshOf stepOf logOf historyOf
+pub right-departs-once : historyOf (logOf stepOf (freshTableOf 2 .table) nothingAgain) ≡ departure (transfer 0 1 (amounting 0 0 0)) ∷ []
+unfolding addOf drawOf showOf receiveOf fiveRules stationSound messageSound allBelow firstFrom tableSound seatsTo freshTableOf stepOf logOf historyOf
 right-departs-once = refl
 
-pub right-departs-once-unasked : historyOf (logOf (deliversUnasked rightTaking) (freshOf 2 .table) nothingAgain) ≡ departure (transfer 0 1 (amounting 0 0 0)) ∷ []
-unfolding addOf drawOf showOf stationSound messageSound allBelow firstFrom tableSound seatsTo freshOf builtWith logOf historyOf
+pub right-departs-once-unasked : historyOf (logOf (deliversUnasked rightTaking) (freshTableOf 2 .table) nothingAgain) ≡ departure (transfer 0 1 (amounting 0 0 0)) ∷ []
+unfolding addOf drawOf showOf stationSound messageSound allBelow firstFrom tableSound seatsTo freshTableOf builtWith logOf historyOf
 right-departs-once-unasked = refl
 
-pub right-sound : tableSound (tableAfter stepOf (freshOf 2 .table) tokenOfNothing) ≡ true
-unfolding addOf drawOf showOf receiveOf takeOf stationSound messageSound allBelow firstFrom tableSound seatsTo freshOf stepOf tableAfter
+pub right-sound : tableSound (tableAfter stepOf (freshTableOf 2 .table) tokenOfNothing) ≡ true
+unfolding addOf drawOf showOf receiveOf fiveRules stationSound messageSound allBelow firstFrom tableSound seatsTo freshTableOf stepOf tableAfter
 right-sound = refl

@@ -17,7 +17,7 @@ use Rattle.station.specs.declared.station.Station.{Station}
 use Rattle.station.specs.Steps.{putStock}
 use Rattle.table.specs.Table.{stationAt, putStation}
 use Rattle.table.specs.Sound.{tableSound}
-use Rattle.steps.specs.Steps.{drawn, stepRefusals, stepDone, stepOf}
+use Rattle.steps.specs.Steps.{drawStep, stepRefusals, stepDone, stepOf}
 use Rattle.steps.specs.declared.asked.Step.the-variants.{Add, Draw}
 use Rattle.table.specs.declared.table.Table.{Table}
 use Rattle.table.proofs.Sums.{station-sound}
@@ -52,12 +52,12 @@ module _ {t : Table} {H : List (Entry ℕ)} {plus minus : ℕ} (r : Reached t H 
       (λ e. plain-first (ltb mostIntake (s .intake + amount)) 5 (cond (ltb mostValue (s .value + amount)) 10 0) (plain 5 refl)
       (λ i. rw (le-ltb mostValue (s .value + amount) (add-fits k amount (below k h) (ltb-false _ _ i))) (plain 0 refl))))))
       (λ z.
-      let one = passed (not (tableSound t)) 0 z in
-      let two = passed (not (ltb k (t .count))) 1 (one .1) in
+      let one = passed (not (tableSound t)) _ z in
+      let two = passed (not (ltb k (t .count))) _ (one .1) in
       record { goes = stock-goes r k (s .value + amount) (s .intake + amount) amount 0 (below k (two .0)) (omega arith) refl; answer = plain 0 refl })
 
   -- a draw that is done took what was there
-  pub taken-goes : (k amount taken : ℕ) → k < t .count → taken ≤ stationAt t k .value → StepGoes t (Draw k amount) H (drawn t k taken (stationAt t k))
+  pub taken-goes : (k amount taken : ℕ) → k < t .count → taken ≤ stationAt t k .value → StepGoes t (Draw k amount) H (drawStep t k taken (stationAt t k))
   taken-goes k amount taken h there =
       let s = stationAt t k in
       record { goes = stock-goes r k (s .value - taken) (s .intake) 0 taken h (omega (arith, there)) (omega arith); answer = plain 0 refl }
@@ -71,7 +71,7 @@ module _ {t : Table} {H : List (Entry ℕ)} {plus minus : ℕ} (r : Reached t H 
       (plain-first (not (ltb k (t .count))) 2 _ (plain 2 refl)
       (λ h. plain-first (not (amountSound amount)) 4 _ (plain 4 refl) (λ e. plain-first (ltb (s .value) amount) 15 0 (plain 15 refl) (λ l. plain 0 refl)))))
       (λ z.
-      let one = passed (not (tableSound t)) 0 z in
-      let two = passed (not (ltb k (t .count))) 1 (one .1) in
-      let three = passed (not (amountSound amount)) 3 (two .1) in
-      taken-goes k amount amount (below k (two .0)) (ltb-false _ _ (passed (ltb (s .value) amount) 14 (three .1) .0)))
+      let one = passed (not (tableSound t)) _ z in
+      let two = passed (not (ltb k (t .count))) _ (one .1) in
+      let three = passed (not (amountSound amount)) _ (two .1) in
+      taken-goes k amount amount (below k (two .0)) (ltb-false _ _ (passed (ltb (s .value) amount) _ (three .1) .0)))

@@ -9,7 +9,7 @@ use Rattle.handshake.specs.History.{departed, arrived}
 use Rattle.handshake.proofs.Histories.{departed-both, arrived-both}
 use Rattle.ground.specs.Limits.{lastClock}
 use Rattle.rules.specs.Rules.{agree, fillBy, makeTokenBy, fill, dropSlot, openSlot, dropToken, makeToken}
-use Rattle.rules.specs.Taking.{takeOf}
+use Rattle.rules.specs.Taking.{fiveRules}
 use Rattle.rules.specs.declared.held.HeldSlot.{HeldSlot}
 use Rattle.rules.specs.declared.held.HeldSlot.the-variants.{NoSlot, OneSlot}
 use Rattle.rules.specs.declared.held.HeldToken.{HeldToken}
@@ -43,9 +43,9 @@ module _ (m : Message) where
       chosen (Leaves (OneSlot l)) (eqb (l .source .0) (x .source .0) && ltb (x .source .0) lastClock) _ _ (λ e. (add-zero (min (x .value) (l .quantity)), refl))
       (λ e. (refl, refl))
 
-  pub taken-weighs : (x : Side) → let r = takeOf x m in let K = entriesBy (One m) (r .result) (r .report) in
+  pub taken-weighs : (x : Side) → let r = fiveRules x m in let K = entriesBy (One m) (r .result) (r .report) in
       (arrived amount K ≡ r .result) × (departed amount K ≡ r .report .made)
-  unfolding takeOf
+  unfolding fiveRules
   taken-weighs x =
       let one = fill x m in
       let four = dropToken (openSlot (dropSlot (one .side) m .side) m .side) m in

@@ -19,7 +19,7 @@ use Rattle.steps.specs.Steps.{stepDone, stepOf}
 use Rattle.steps.proofs.Kept.{step-keeps, less-keeps}
 use Rattle.table.specs.declared.stepped.Stepped.{Stepped}
 use Rattle.table.specs.declared.table.Table.{Table}
-use Rattle.table.specs.Fresh.{seatsTo, freshOf}
+use Rattle.table.specs.Fresh.{seatsTo, freshTableOf}
 use Rattle.table.specs.Sound.{tableSound}
 use Rattle.table.specs.Stepped.{answeredStep}
 use Rattle.table.specs.Table.{stationAt, waitingAt}
@@ -41,8 +41,8 @@ refusal t k amount = cond (not (tableSound t)) 1 (cond (not (ltb k (t .count))) 
 
 at-station : (t : Table) (k amount : ℕ) → refusal t k amount ≡ 0 → k < t .count
 at-station t k amount z =
-    let one = passed (not (tableSound t)) 0 z in
-    ltb-true k (t .count) (not-false _ (passed (not (ltb k (t .count))) 1 (one .1) .0))
+    let one = passed (not (tableSound t)) _ z in
+    ltb-true k (t .count) (not-false _ (passed (not (ltb k (t .count))) _ (one .1) .0))
 
 module _ {t : Table} {H : List (Entry ℕ)} {plus minus : ℕ} (r : Reached t H plus minus) where
   draws-go : (k amount : ℕ) → StepGoes t (Draw k amount) H (whatIsThere t (Draw k amount))
@@ -86,10 +86,10 @@ keeps t (Send from to) e = step-keeps t (Send from to) e
 keeps t (Deliver p) e = rw (delivers-right t (waitingAt t p)) (step-keeps t (Deliver p) e)
 keeps t (Lose p) e = step-keeps t (Lose p) e
 
-pub what-is-there-keeps : (count : ℕ) → freshOf count .answer ≡ done → Demand3 whatIsThere (freshOf count .table)
+pub what-is-there-keeps : (count : ℕ) → freshTableOf count .answer ≡ done → Demand3 whatIsThere (freshTableOf count .table)
 what-is-there-keeps = by-each-step (record { goes = goes; keeps = keeps })
 
 -- station 0 has 5 and is asked for 6: done, and refused by 15
-pub what-is-there-differs : let five = stepOf (freshOf 2 .table) (Add 0 5) .table in whatIsThere five (Draw 0 6) ≡ stepOf five (Draw 0 6) → ⊥
-unfolding stationSound messageSound allBelow tableSound seatsTo freshOf stepOf builtWith
+pub what-is-there-differs : let five = stepOf (freshTableOf 2 .table) (Add 0 5) .table in whatIsThere five (Draw 0 6) ≡ stepOf five (Draw 0 6) → ⊥
+unfolding stationSound messageSound allBelow tableSound seatsTo freshTableOf stepOf builtWith
 what-is-there-differs e = eqb-false 0 15 refl (ap (λ (x : Stepped). x .answer) e)

@@ -5,19 +5,19 @@ use mathlib.Core.Path.{_≡_, refl}
 use Rattle.ground.specs.Sums.{sumBelow}
 use Rattle.ground.specs.Below.{allBelow}
 use Rattle.station.specs.Sound.{stationSound, messageSound}
-use Rattle.rules.specs.Taking.{takeOf}
+use Rattle.rules.specs.Taking.{fiveRules}
 use Rattle.station.specs.Steps.{addOf, drawOf, showOf, receiveOf}
 use Rattle.ground.specs.First.{firstFrom}
 use Rattle.table.specs.Sound.{tableSound}
-use Rattle.table.specs.Fresh.{seatsTo, freshOf}
+use Rattle.table.specs.Fresh.{seatsTo, freshTableOf}
 use Rattle.steps.specs.Steps.{stepOf}
 use Rattle.runs.specs.Runs.{logOf, tableAfter, historyOf}
-use Rattle.runs.specs.Worked.{worked, stepLines, outputOf, workedOutput, workedHistory}
+use Rattle.runs.specs.Worked.{worked, stepRows, runOutput, workedOutput, workedHistory}
 
-pub worked-output : outputOf (tableAfter stepOf (freshOf 2 .table) worked) (logOf stepOf (freshOf 2 .table) worked) ≡ workedOutput
-unfolding addOf drawOf showOf receiveOf takeOf stationSound messageSound allBelow firstFrom tableSound seatsTo freshOf stepOf sumBelow logOf tableAfter stepLines
+pub worked-output : runOutput (tableAfter stepOf (freshTableOf 2 .table) worked) (logOf stepOf (freshTableOf 2 .table) worked) ≡ workedOutput
+unfolding addOf drawOf showOf receiveOf fiveRules stationSound messageSound allBelow firstFrom tableSound seatsTo freshTableOf stepOf sumBelow logOf tableAfter stepRows
 worked-output = refl
 
-pub worked-history : historyOf (logOf stepOf (freshOf 2 .table) worked) ≡ workedHistory
-unfolding addOf drawOf showOf receiveOf takeOf stationSound messageSound allBelow firstFrom tableSound seatsTo freshOf stepOf logOf historyOf
+pub worked-history : historyOf (logOf stepOf (freshTableOf 2 .table) worked) ≡ workedHistory
+unfolding addOf drawOf showOf receiveOf fiveRules stationSound messageSound allBelow firstFrom tableSound seatsTo freshTableOf stepOf logOf historyOf
 worked-history = refl

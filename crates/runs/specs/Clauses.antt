@@ -16,7 +16,7 @@ use Rattle.table.specs.Table.{stationAt}
 use Rattle.table.specs.Way.{atStations, onTheWay}
 use Rattle.steps.specs.declared.asked.Step.{Step}
 use Rattle.table.specs.declared.table.Table.{Table}
-use Rattle.runs.specs.Runs.{Build, Line, logOf, tableAfter, added, drawn, historyOf, amounting}
+use Rattle.runs.specs.Runs.{Build, Line, logOf, tableAfter, allAdded, allDrawn, historyOf, amounting}
 use Rattle.runs.specs.Demand3.{amount, waitsFor}
 
 pub data Clause : Type 0 where
@@ -49,7 +49,7 @@ NeverLands t later =
 
 -- what a clause says of these steps, from a table on
 abbrev pub says : Clause → Build → Table → List Step → Type 0
-says passes build t steps = let log = logOf build t steps in let u = tableAfter build t steps in atStations u + onTheWay u + drawn log ≡ added log
+says passes build t steps = let log = logOf build t steps in let u = tableAfter build t steps in atStations u + onTheWay u + allDrawn log ≡ allAdded log
 says departed-before build t steps = DepartedBefore (historyOf (logOf build t steps))
 says one-departure build t steps = OnlyOne departure (historyOf (logOf build t steps))
 says one-arrival build t steps = OnlyOne arrival (historyOf (logOf build t steps))

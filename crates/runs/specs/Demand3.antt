@@ -19,7 +19,7 @@ use Rattle.table.specs.Table.{stationAt}
 use Rattle.table.specs.Way.{atStations, onTheWay}
 use Rattle.steps.specs.declared.asked.Step.{Step}
 use Rattle.table.specs.declared.table.Table.{Table}
-use Rattle.runs.specs.Runs.{Build, Line, logOf, tableAfter, added, drawn, historyOf, amounting}
+use Rattle.runs.specs.Runs.{Build, Line, logOf, tableAfter, allAdded, allDrawn, historyOf, amounting}
 
 -- every token weighs what it carries
 abbrev pub amount : ℕ → ℕ
@@ -30,7 +30,7 @@ pub record Accounted (t : Table) (log : List Line) : Type 0 where
   -- 1. The passes at all stations plus the passes on the way equal all passes added less all passes
   -- drawn. (Written with a sum: what was drawn stands on the left, so that nothing is cut off at
   -- 0.)
-  pub passes : atStations t + onTheWay t + drawn log ≡ added log
+  pub passes : atStations t + onTheWay t + allDrawn log ≡ allAdded log
   -- 2. Each arrival belongs to exactly one earlier departure between the same two stations, with
   -- both clocks equal and of the same amount; no departure has two arrivals.
   pub pairing : Pairing (historyOf log)

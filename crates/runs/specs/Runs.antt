@@ -33,47 +33,47 @@ pub record Line : Type 0 where
   pub result : ℕ
   pub report : Report
 
-abbrev pub messageIn : Table → Step → Waiting
-messageIn t (Add k amount) = Empty
-messageIn t (Draw k amount) = Empty
-messageIn t (Send from to) = Empty
-messageIn t (Deliver p) = waitingAt t p
-messageIn t (Lose p) = Empty
+abbrev pub messageDelivered : Table → Step → Waiting
+messageDelivered t (Add k amount) = Empty
+messageDelivered t (Draw k amount) = Empty
+messageDelivered t (Send from to) = Empty
+messageDelivered t (Deliver p) = waitingAt t p
+messageDelivered t (Lose p) = Empty
 
-abbrev pub lineOf : Table → Step → Stepped → Line
-lineOf t step told = record { step = step; delivered = messageIn t step; answer = told .answer; result = told .result; report = told .report }
+abbrev pub logLine : Table → Step → Stepped → Line
+logLine t step told = record { step = step; delivered = messageDelivered t step; answer = told .answer; result = told .result; report = told .report }
 
 unfoldable pub logOf : Build → Table → List Step → List Line
 logOf build t [] = []
-logOf build t (step ∷ steps) = lineOf t step (build t step) ∷ logOf build (build t step .table) steps
+logOf build t (step ∷ steps) = logLine t step (build t step) ∷ logOf build (build t step .table) steps
 
 unfoldable pub tableAfter : Build → Table → List Step → Table
 tableAfter build t [] = t
 tableAfter build t (step ∷ steps) = tableAfter build (build t step .table) steps
 
 -- an add that answered 0 counts its amount
-abbrev pub addedBy : Step → ℕ → ℕ
-addedBy (Add k amount) answer = cond (eqb answer done) amount 0
-addedBy (Draw k amount) answer = 0
-addedBy (Send from to) answer = 0
-addedBy (Deliver p) answer = 0
-addedBy (Lose p) answer = 0
+abbrev pub amountAdded : Step → ℕ → ℕ
+amountAdded (Add k amount) answer = cond (eqb answer done) amount 0
+amountAdded (Draw k amount) answer = 0
+amountAdded (Send from to) answer = 0
+amountAdded (Deliver p) answer = 0
+amountAdded (Lose p) answer = 0
 
 -- a draw counts its reported result
-abbrev pub drawnBy : Step → ℕ → ℕ
-drawnBy (Add k amount) result = 0
-drawnBy (Draw k amount) result = result
-drawnBy (Send from to) result = 0
-drawnBy (Deliver p) result = 0
-drawnBy (Lose p) result = 0
+abbrev pub amountDrawn : Step → ℕ → ℕ
+amountDrawn (Add k amount) result = 0
+amountDrawn (Draw k amount) result = result
+amountDrawn (Send from to) result = 0
+amountDrawn (Deliver p) result = 0
+amountDrawn (Lose p) result = 0
 
-unfoldable pub added : List Line → ℕ
-added [] = 0
-added (x ∷ log) = addedBy (x .step) (x .answer) + added log
+unfoldable pub allAdded : List Line → ℕ
+allAdded [] = 0
+allAdded (x ∷ log) = amountAdded (x .step) (x .answer) + allAdded log
 
-unfoldable pub drawn : List Line → ℕ
-drawn [] = 0
-drawn (x ∷ log) = drawnBy (x .step) (x .result) + drawn log
+unfoldable pub allDrawn : List Line → ℕ
+allDrawn [] = 0
+allDrawn (x ∷ log) = amountDrawn (x .step) (x .result) + allDrawn log
 
 -- the token with a slot's or a token's two clocks and the amount that was reported
 abbrev pub amounting : ℕ → ℕ → ℕ → Held ℕ

@@ -18,7 +18,7 @@ use Rattle.table.specs.Table.{stationAt}
 use Rattle.table.specs.Way.{atStations, onTheWay}
 use Rattle.steps.specs.declared.asked.Step.{Step}
 use Rattle.table.specs.declared.table.Table.{Table}
-use Rattle.runs.specs.Runs.{Build, Line, logOf, tableAfter, added, drawn, historyOf}
+use Rattle.runs.specs.Runs.{Build, Line, logOf, tableAfter, allAdded, allDrawn, historyOf}
 use Rattle.runs.specs.Demand3.{amount, waitsFor}
 use Rattle.runs.specs.Clauses.{Clause, passes, departed-before, one-departure, one-arrival, way, sound, answers, stale}
 
@@ -87,7 +87,7 @@ staleTest build t (step ∷ steps) =
     neverLandsTest t (historyOf (logOf build t (step ∷ steps))) && staleTest build (build t step .table) steps
 
 abbrev pub test : Clause → Build → Table → List Step → Bool
-test passes build t steps = let log = logOf build t steps in let u = tableAfter build t steps in eqb (atStations u + onTheWay u + drawn log) (added log)
+test passes build t steps = let log = logOf build t steps in let u = tableAfter build t steps in eqb (atStations u + onTheWay u + allDrawn log) (allAdded log)
 test departed-before build t steps = departedBeforeTest (historyOf (logOf build t steps))
 test one-departure build t steps = onlyOneTest departureIn (historyOf (logOf build t steps))
 test one-arrival build t steps = onlyOneTest arrivalIn (historyOf (logOf build t steps))

@@ -22,20 +22,20 @@ pub record Output : Type 0 where
   pub total : ℕ
 
 -- each step prints its number from 1, its answer, its result
-unfoldable pub stepLines : ℕ → List Line → List (List ℕ)
-stepLines number [] = []
-stepLines number (x ∷ log) = (number ∷ x .answer ∷ x .result ∷ []) ∷ stepLines (suc number) log
+unfoldable pub stepRows : ℕ → List Line → List (List ℕ)
+stepRows number [] = []
+stepRows number (x ∷ log) = (number ∷ x .answer ∷ x .result ∷ []) ∷ stepRows (suc number) log
 
 -- each station its number, its value, its source clock and its destination clock
-abbrev pub stationLine : Table → ℕ → List ℕ
-stationLine t k = let s = stationAt t k in k ∷ s .value ∷ s .source .0 ∷ s .destination .0 ∷ []
+abbrev pub stationRow : Table → ℕ → List ℕ
+stationRow t k = let s = stationAt t k in k ∷ s .value ∷ s .source .0 ∷ s .destination .0 ∷ []
 
 -- then the sum on the way, then values plus that sum
-abbrev pub outputOf : Table → List Line → Output
-outputOf t log =
+abbrev pub runOutput : Table → List Line → Output
+runOutput t log =
     record {
-      steps = stepLines 1 log;
-      stations = stationLine t 0 ∷ stationLine t 1 ∷ [];
+      steps = stepRows 1 log;
+      stations = stationRow t 0 ∷ stationRow t 1 ∷ [];
       on-the-way = onTheWay t;
       total = atStations t + onTheWay t;
     }

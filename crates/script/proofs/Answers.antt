@@ -8,7 +8,7 @@ use lib.ListN.{length}
 use Rattle.ground.specs.Answers.{notSound, badLine, longScript, shortBuffer}
 use Rattle.ground.specs.Refusals.{when, answerOf}
 use Rattle.station.specs.Sound.{countSound}
-use Rattle.table.specs.Fresh.{freshOf}
+use Rattle.table.specs.Fresh.{freshTableOf}
 use Rattle.script.specs.declared.starting.Run.{Run}
 use Rattle.script.specs.declared.words.Numeral.{Numeral}
 use Rattle.script.specs.declared.words.Numeral.the-variants.{Unreadable, Reads}
@@ -17,11 +17,11 @@ use Rattle.script.specs.Lines.{stationsOf}
 use Rattle.script.specs.Reading.{lineAt, pastLine}
 use Rattle.script.specs.Script.{mostBytes}
 use Rattle.script.specs.Starting.{notStarted, startFor, namesNone, namesBad, startRefusals, startedOf}
-use Rattle.script.specs.Filling.{runSound, Turn, fillRefusals, turnOf}
+use Rattle.script.specs.Putting.{runSound, OutputPiece, putLinesRefusals, pieceOf}
 
 start-by : (long : Bool) (first : Numeral) (at : ℕ) → cond long (notStarted longScript) (startFor first at) .answer
     ≡ answerOf (when long longScript ∷ when (namesNone first) badLine ∷ when (namesBad first) notSound ∷ [])
-unfolding freshOf
+unfolding freshTableOf
 start-by true first at = refl
 start-by false Unreadable at = refl
 start-by false (Reads count) at = by (countSound count) refl
@@ -34,15 +34,15 @@ pub start-tells : (script : List ℕ) → startedOf script .answer ≡ answerOf 
 unfolding startedOf
 start-tells script = start-by (ltb mostBytes (length script)) (stationsOf (lineAt script 0)) (pastLine script 0)
 
-fill-by : (a b c d : Bool) (u v w x y : Turn) → u .answer ≡ 1 → v .answer ≡ 14 → w .answer ≡ 0 → x .answer ≡ 0 → y .answer ≡ 0
+piece-by : (a b c d : Bool) (u v w x y : OutputPiece) → u .answer ≡ 1 → v .answer ≡ 14 → w .answer ≡ 0 → x .answer ≡ 0 → y .answer ≡ 0
     → cond a u (cond b v (cond c w (cond d x y))) .answer ≡ answerOf (when a notSound ∷ when b shortBuffer ∷ [])
-fill-by true b c d u v w x y p q e f g = p
-fill-by false true c d u v w x y p q e f g = q
-fill-by false false true d u v w x y p q e f g = e
-fill-by false false false true u v w x y p q e f g = f
-fill-by false false false false u v w x y p q e f g = g
+piece-by true b c d u v w x y p q e f g = p
+piece-by false true c d u v w x y p q e f g = q
+piece-by false false true d u v w x y p q e f g = e
+piece-by false false false true u v w x y p q e f g = f
+piece-by false false false false u v w x y p q e f g = g
 
-pub fill-tells : (script : List ℕ) (run : Run) (room : ℕ) → turnOf script run room .answer ≡ answerOf (fillRefusals run room)
-unfolding turnOf
-fill-tells script run room =
-    fill-by (not (runSound run)) (ltb room closingRoom) (run .finished) (ltb (run .at) (length script)) _ _ _ _ _ refl refl refl refl refl
+pub put-lines-tells : (script : List ℕ) (run : Run) (room : ℕ) → pieceOf script run room .answer ≡ answerOf (putLinesRefusals run room)
+unfolding pieceOf
+put-lines-tells script run room =
+    piece-by (not (runSound run)) (ltb room closingRoom) (run .finished) (ltb (run .at) (length script)) _ _ _ _ _ refl refl refl refl refl

@@ -2,10 +2,10 @@
 use Prim.Native.Nat.{ℕ, _≤_}
 use native.Mathlib.Omega.{arith}
 use lib.ListN.{length, length-append}
-use Rattle.script.specs.Decimal.{says, stationLine, wayLine, totalLine}
+use Rattle.script.specs.Decimal.{stepLine, stationLine, wayLine, totalLine}
 use Rattle.script.proofs.Decimals.{length-decimal}
 
-pub length-says : (number answer result : ℕ) → length (says number answer result) ≤ 63
+pub length-says : (number answer result : ℕ) → length (stepLine number answer result) ≤ 63
 length-says number answer result = simp length-append (omega (arith, length-decimal number, length-decimal answer, length-decimal result))
 
 pub length-station : (k value source destination : ℕ) → length (stationLine k value source destination) ≤ 117

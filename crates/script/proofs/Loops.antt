@@ -6,24 +6,24 @@ use mathlib.Core.Bool.{true, false}
 use mathlib.Core.List.{List, _++_}
 use lib.ListN.{length, take}
 use Rattle.ground.proofs.Choices.{when-refused}
-use Rattle.script.specs.declared.filling.Filled.{Filled}
+use Rattle.script.specs.declared.putting.PutLines.{PutLines}
 use Rattle.script.specs.declared.starting.Put.{Put}
 use Rattle.script.specs.declared.starting.Run.{Run}
 use Rattle.script.specs.Script.{outputOf}
 use Rattle.script.specs.Closing.{closingRoom}
 use Rattle.script.specs.Starting.{PutsAnswer, startedOf, stepRoom}
-use Rattle.script.specs.Filling.{turnOf}
+use Rattle.script.specs.Putting.{pieceOf}
 use Rattle.script.specs.Printed.{ended, Loops, mostTurns, putIn, runIn, turned, used-up}
-use Rattle.script.proofs.Fits.{answer-first, filled-first}
+use Rattle.script.proofs.Fits.{answer-first, put-lines-first}
 use Rattle.script.proofs.Starts.{start-prints}
 use Rattle.script.proofs.Whole.{finishes, whole}
 
 module _ (turns room : ℕ) (script : List ℕ) (run : Run) where
-  put-on : run .finished ≡ false → putIn (suc turns) room script run ≡ turnOf script run room .bytes ++ putIn turns room script (turnOf script run room .run)
+  put-on : run .finished ≡ false → putIn (suc turns) room script run ≡ pieceOf script run room .bytes ++ putIn turns room script (pieceOf script run room .run)
   unfolding putIn
   put-on e = rw e
 
-  run-on : run .finished ≡ false → runIn (suc turns) room script run ≡ runIn turns room script (turnOf script run room .run)
+  run-on : run .finished ≡ false → runIn (suc turns) room script run ≡ runIn turns room script (pieceOf script run room .run)
   unfolding runIn
   run-on e = rw e
 
@@ -34,8 +34,8 @@ loops-put zero used-up = (refl, refl)
 loops-put (suc turns) (ended e) = rw e (refl, refl)
 loops-put {script} {room} (suc turns) {run} (turned {out = out} e l f more) =
     let rest = loops-put turns more in
-    let first = filled-first script run out f ∙ ap (λ (n : ℕ). turnOf script run n .bytes) l in
-    let next = ap (λ (r : Filled). r .run) (f .filled) ∙ ap (λ (n : ℕ). turnOf script run n .run) l in
+    let first = put-lines-first script run out f ∙ ap (λ (n : ℕ). pieceOf script run n .bytes) l in
+    let next = ap (λ (r : PutLines). r .run) (f .put) ∙ ap (λ (n : ℕ). pieceOf script run n .run) l in
     (rw (first, rest .0, next) (sym (put-on turns room script run e)), rest .1 ∙ rw next (sym (run-on turns room script run e)))
 
 module _ (script : List ℕ) where

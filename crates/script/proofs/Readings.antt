@@ -18,7 +18,7 @@ use Rattle.steps.specs.declared.asked.Step.the-variants.{Add, Draw, Send, Deliv
 use Rattle.steps.specs.Running.{askedIn, numbersFor}
 use Rattle.script.specs.Words.{indexOf}
 use Rattle.script.specs.Lines.{lineOf}
-use Rattle.script.specs.Reading.{lineAt, linesFrom, numbersOf, pastLine, pastLines, readOf}
+use Rattle.script.specs.Reading.{lineAt, linesFrom, numbersForAll, pastLine, pastLines, linesRead}
 
 -- a position within the script moves on, and not past the end
 onward-by : (at i n : ℕ) (inside : Bool) → at < n → at < cond inside (at + i + 1) n
@@ -116,13 +116,13 @@ length-three (OneStep (Send from to)) = refl
 length-three (OneStep (Deliver p)) = refl
 length-three (OneStep (Lose p)) = refl
 
-pub length-numbers : (xs : List Asked) → length (numbersOf xs) ≡ 3 * length xs
-unfolding numbersOf
+pub length-numbers : (xs : List Asked) → length (numbersForAll xs) ≡ 3 * length xs
+unfolding numbersForAll
 length-numbers [] = refl
 length-numbers (x ∷ xs) = rw (length-append, length-three x, length-numbers xs) (omega arith)
 
-pub numbers-asked : (xs : List Asked) → askedIn (length xs) (numbersOf xs) ≡ xs
-unfolding numbersOf askedIn
+pub numbers-asked : (xs : List Asked) → askedIn (length xs) (numbersForAll xs) ≡ xs
+unfolding numbersForAll askedIn
 numbers-asked [] = refl
 numbers-asked (NoStep ∷ xs) = rw (numbers-asked xs)
 numbers-asked (OneStep (Add k amount) ∷ xs) = rw (numbers-asked xs)
@@ -136,7 +136,7 @@ numbers-asked (OneStep (Lose p) ∷ xs) = rw (numbers-asked xs)
 pub record Reading (script : List ℕ) (start most : ℕ) (codes₀ codes : List ℕ) (at lines : ℕ) : Type 0 where
   pub few : lines ≤ most
   pub same : length codes ≡ length codes₀
-  pub put : sets codes (3 * lines) (numbersOf (linesFrom (most - lines) script at)) ≡ sets codes₀ 0 (numbersOf (linesFrom most script start))
+  pub put : sets codes (3 * lines) (numbersForAll (linesFrom (most - lines) script at)) ≡ sets codes₀ 0 (numbersForAll (linesFrom most script start))
   pub count : lines + length (linesFrom (most - lines) script at) ≡ length (linesFrom most script start)
   pub past : pastLines (most - lines) script at ≡ pastLines most script start
 
@@ -147,7 +147,7 @@ module _ (script : List ℕ) (start most : ℕ) (codes₀ : List ℕ) where
       record {
         few = omega arith;
         same = refl;
-        put = ap (λ (n : ℕ). sets codes₀ 0 (numbersOf (linesFrom n script start))) all;
+        put = ap (λ (n : ℕ). sets codes₀ 0 (numbersForAll (linesFrom n script start))) all;
         count = ap (λ (n : ℕ). 0 + length (linesFrom n script start)) all ∙ omega arith;
         past = ap (λ (n : ℕ). pastLines n script start) all;
       }
@@ -155,7 +155,7 @@ module _ (script : List ℕ) (start most : ℕ) (codes₀ : List ℕ) where
   module _ (codes : List ℕ) (at lines : ℕ) (r : Reading script start most codes₀ codes at lines) where
     pub line-read : (codes′ : List ℕ) {x : Asked} → lines < most → at < length script → x ≡ lineOf (lineAt script at) → codes′ ≡ sets codes (3 * lines) (numbersFor x)
         → Reading script start most codes₀ codes′ (pastLine script at) (lines + 1)
-    unfolding numbersOf
+    unfolding numbersForAll
     line-read codes′ {x} f h e s =
         let left = most - (lines + 1) in
         let xs = linesFrom left script (pastLine script at) in
@@ -166,8 +166,8 @@ module _ (script : List ℕ) (start most : ℕ) (codes₀ : List ℕ) where
           few = omega arith;
           same = ap length s ∙ length-sets codes (3 * lines) (numbersFor x) ∙ r .same;
           put =
-              then codes (3 * lines) (3 * (lines + 1)) (numbersFor x) (numbersOf xs) codes′ _ s refl behind
-              ∙ ap (λ (l : List Asked). sets codes (3 * lines) (numbersOf l)) (sym more)
+              then codes (3 * lines) (3 * (lines + 1)) (numbersFor x) (numbersForAll xs) codes′ _ s refl behind
+              ∙ ap (λ (l : List Asked). sets codes (3 * lines) (numbersForAll l)) (sym more)
               ∙ r .put;
           count = omega (arith, ap length more, r .count);
           past = sym (past-more script at left h) ∙ ap (λ (n : ℕ). pastLines n script at) (sym one) ∙ r .past;
@@ -184,8 +184,8 @@ module _ (script : List ℕ) (start most : ℕ) (codes₀ : List ℕ) where
         (λ (h : most ≤ lines). inl (omega arith))
         (below-or-not lines most)
 
-    pub all-read : (ltb lines most && ltb at (length script)) ≡ false → (record { lines = lines; at = at } ≡ readOf most script start) × (codes ≡ sets codes₀ 0 (numbersOf (linesFrom most script start)))
-    unfolding numbersOf
+    pub all-read : (ltb lines most && ltb at (length script)) ≡ false → (record { lines = lines; at = at } ≡ linesRead most script start) × (codes ≡ sets codes₀ 0 (numbersForAll (linesFrom most script start)))
+    unfolding numbersForAll
     all-read e =
         let none = ended (no-more e) in
         let count : lines ≡ length (linesFrom most script start) = omega (arith, ap length (none .0), r .count) in

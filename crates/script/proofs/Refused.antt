@@ -6,13 +6,13 @@ use mathlib.Core.List.{List, []}
 use mathlib.Core.Logic.{⊎-elim}
 use borrow.Author.Tests.{le-ltb, lt-ltb}
 use lib.ListN.{length}
-use Rattle.script.specs.declared.filling.Filled.{Filled}
+use Rattle.script.specs.declared.putting.PutLines.{PutLines}
 use Rattle.script.specs.declared.starting.Put.{Put}
 use Rattle.script.specs.declared.starting.Run.{Run}
 use Rattle.script.specs.declared.starting.Started.{Started}
 use Rattle.script.specs.Closing.{closingRoom}
 use Rattle.script.specs.Starting.{notStarted, PutsAnswer, startedOf, stepRoom}
-use Rattle.script.specs.Filling.{Fills, runSound, Turn, turnOf}
+use Rattle.script.specs.Putting.{PutsLines, runSound, OutputPiece, pieceOf}
 use Rattle.ground.proofs.Tests.{below-or-not}
 use Rattle.script.proofs.Starts.{begun, Begun, going, refused}
 use Rattle.script.proofs.Turns.{turn-closes, turn-finished, turn-short, turn-steps, turn-unsound}
@@ -36,18 +36,18 @@ answer-refused answer out p f =
 -- a turn that is refused puts nothing and leaves the run as it was
 module _ (script : List ℕ) (run : Run) (room : ℕ) where
   module _ (e : runSound run ≡ true) (wide : closingRoom ≤ room) where
-    open-done : run .finished ≡ false → turnOf script run room .answer ≡ 0
+    open-done : run .finished ≡ false → pieceOf script run room .answer ≡ 0
     open-done f =
         ⊎-elim
-        (λ (h : run .at < length script). ap (λ (t : Turn). t .answer) (turn-steps script run room e wide f h))
-        (λ (h : length script ≤ run .at). ap (λ (t : Turn). t .answer) (turn-closes script run room e wide f h))
+        (λ (h : run .at < length script). ap (λ (t : OutputPiece). t .answer) (turn-steps script run room e wide f h))
+        (λ (h : length script ≤ run .at). ap (λ (t : OutputPiece). t .answer) (turn-closes script run room e wide f h))
         (below-or-not (run .at) (length script))
 
-    by-finished : (b : Bool) → run .finished ≡ b → turnOf script run room .answer ≡ 0
-    by-finished true f = ap (λ (t : Turn). t .answer) (turn-finished script run room e wide f)
+    by-finished : (b : Bool) → run .finished ≡ b → pieceOf script run room .answer ≡ 0
+    by-finished true f = ap (λ (t : OutputPiece). t .answer) (turn-finished script run room e wide f)
     by-finished false f = open-done f
 
-  by-sound : (b : Bool) → runSound run ≡ b → (turnOf script run room .answer ≡ 0 → ⊥) → (turnOf script run room .bytes ≡ []) × (turnOf script run room .run ≡ run)
+  by-sound : (b : Bool) → runSound run ≡ b → (pieceOf script run room .answer ≡ 0 → ⊥) → (pieceOf script run room .bytes ≡ []) × (pieceOf script run room .run ≡ run)
   by-sound true e f =
       ⊎-elim
       (λ (h : room < closingRoom). rw (turn-short script run room e h) (refl, refl))
@@ -55,7 +55,7 @@ module _ (script : List ℕ) (run : Run) (room : ℕ) where
       (below-or-not room closingRoom)
   by-sound false e f = rw (turn-unsound script run room e) (refl, refl)
 
-pub fill-refused : (script : List ℕ) (run : Run) (out : List ℕ) {r : Filled} {later : List ℕ} → Fills script run out r later → (r .answer ≡ 0 → ⊥) → (r .result ≡ 0) × (r .run ≡ run) × (later ≡ out)
-fill-refused script run out p f =
-    let none = by-sound script run (length out) (runSound run) refl (λ z. f (ap (λ (r : Filled). r .answer) (p .filled) ∙ z)) in
-    rw (p .filled, p .lent, none .0, none .1) (refl, refl, refl)
+pub put-lines-refused : (script : List ℕ) (run : Run) (out : List ℕ) {r : PutLines} {later : List ℕ} → PutsLines script run out r later → (r .answer ≡ 0 → ⊥) → (r .result ≡ 0) × (r .run ≡ run) × (later ≡ out)
+put-lines-refused script run out p f =
+    let none = by-sound script run (length out) (runSound run) refl (λ z. f (ap (λ (r : PutLines). r .answer) (p .put) ∙ z)) in
+    rw (p .put, p .lent, none .0, none .1) (refl, refl, refl)

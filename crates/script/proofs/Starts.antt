@@ -13,14 +13,14 @@ use Rattle.station.specs.Sound.{countSound}
 use Rattle.table.specs.declared.stepped.Stepped.{Stepped}
 use Rattle.table.specs.declared.table.Table.{Table}
 use Rattle.table.specs.Sound.{tableSound}
-use Rattle.table.specs.Fresh.{freshOf}
+use Rattle.table.specs.Fresh.{freshTableOf}
 use Rattle.table.proofs.FreshSound.{fresh-table-sound}
 use Rattle.script.specs.declared.words.Numeral.{Numeral}
 use Rattle.script.specs.declared.words.Numeral.the-variants.{Unreadable, Reads}
 use Rattle.script.specs.declared.starting.Started.{Started}
 use Rattle.script.specs.Words.{past, upTo}
 use Rattle.script.specs.Lines.{stationsOf}
-use Rattle.script.specs.Decimal.{says}
+use Rattle.script.specs.Decimal.{stepLine}
 use Rattle.script.specs.Script.{mostBytes, openedBy, outputOf, started}
 use Rattle.script.specs.Reading.{lineAt, pastLine}
 use Rattle.script.specs.Starting.{notStarted, startedOf, startFor, startWith, answerLine}
@@ -34,8 +34,8 @@ pub data Begun (script : List ℕ) (s : Started) : Type 0 where
   going : (t : Table) (at : ℕ) → s ≡ record { answer = 0; result = 0; run = record { table = t; at = at; number = 1; finished = false } }
       → tableSound t ≡ true → 1 ≤ at → at ≤ length script → length script ≤ mostBytes → Begun script s
 
-fresh-by : (count : ℕ) (sound : Bool) → countSound count ≡ sound → freshOf count .answer ≡ 0 → tableSound (freshOf count .table) ≡ true
-unfolding freshOf
+fresh-by : (count : ℕ) (sound : Bool) → countSound count ≡ sound → freshTableOf count .answer ≡ 0 → tableSound (freshTableOf count .table) ≡ true
+unfolding freshTableOf
 fresh-by count true e z = fresh-table-sound count e
 fresh-by count false e z = let n : _≡_ {A = ℕ} 1 0 = rw e at z in absurd (omega arith)
 
@@ -46,7 +46,7 @@ module _ (script : List ℕ) (some : 0 < length script) where
 
   first-begun : (first : Numeral) → length script ≤ mostBytes → Begun script (startFor first (pastLine script 0))
   first-begun Unreadable h = refused 11 refl
-  first-begun (Reads count) h = made-begun (freshOf count) (freshOf count .answer) refl (fresh-by count (countSound count) refl) h
+  first-begun (Reads count) h = made-begun (freshTableOf count) (freshTableOf count .answer) refl (fresh-by count (countSound count) refl) h
 
   size-begun : (long : Bool) → ltb mostBytes (length script) ≡ long → (first : Numeral) → Begun script (cond long (notStarted 13) (startFor first (pastLine script 0)))
   size-begun true e first = refused 12 refl
@@ -68,9 +68,9 @@ made-prints script made (suc n) e = rw e
 
 first-prints : (script : List ℕ) (first : Numeral) → let s = startFor first (pastLine script 0) in openedBy first (past 10 script) ≡ printed script s
 first-prints script Unreadable = refl
-first-prints script (Reads count) = made-prints script (freshOf count) (freshOf count .answer) refl
+first-prints script (Reads count) = made-prints script (freshTableOf count) (freshTableOf count .answer) refl
 
-size-prints : (long : Bool) (script : List ℕ) (first : Numeral) → let s = cond long (notStarted 13) (startFor first (pastLine script 0)) in cond long (says 0 13 0) (openedBy first (past 10 script)) ≡ printed script s
+size-prints : (long : Bool) (script : List ℕ) (first : Numeral) → let s = cond long (notStarted 13) (startFor first (pastLine script 0)) in cond long (stepLine 0 13 0) (openedBy first (past 10 script)) ≡ printed script s
 size-prints true script first = refl
 size-prints false script first = first-prints script first
 

@@ -20,7 +20,7 @@ use Rattle.script.specs.Script.{mostBytes, outputOf}
 use Rattle.script.specs.Closing.{closingRoom}
 use Rattle.script.specs.Reading.{linesFrom, pastLines}
 use Rattle.script.specs.Starting.{notStarted, startedOf, answerLine}
-use Rattle.script.specs.Filling.{atOnce, closed, runSound, stepped}
+use Rattle.script.specs.Putting.{atOnce, closingPiece, runSound, stepsPiece}
 use Rattle.script.specs.Printed.{mostTurns, printedIn, putIn, runIn}
 use Rattle.ground.proofs.Tests.{below-or-not}
 use Rattle.ground.specs.Choice.{ifDone}
@@ -61,7 +61,7 @@ module _ (script : List ℕ) (room : ℕ) (short : length script ≤ mostBytes) 
     run-sound : runSound run ≡ true
     run-sound = rw (ready .sound, le-leb (run .number) mostBytes (omega (arith, ready .counted, ready .within)))
 
-    steps-ready : (most : ℕ) → Ready script (stepped script run most .run)
+    steps-ready : (most : ℕ) → Ready script (stepsPiece script run most .run)
     steps-ready most =
         record {
           sound = left-keeps (run .table) (linesFrom most script (run .at)) (ready .sound);
@@ -83,12 +83,12 @@ module _ (script : List ℕ) (room : ℕ) (short : length script ≤ mostBytes) 
       ⊎-elim
       (λ (h : run .at < length script).
       let most = atOnce room in
-      let next = stepped script run most .run in
+      let next = stepsPiece script run most .run in
       let on = steps-onward run ready open′ most some-room h in
       let rest = turns-put turns next (steps-ready run ready open′ most) refl (omega arith) in
       rw (turn-steps script run room (run-sound run ready open′) wide open′ h, open′) (rw (rest .0) (sym (owed-lines most script (run .table) (run .number) (run .at))), rest .1))
       (λ (h : length script ≤ run .at).
-      let next = closed run .run in
+      let next = closingPiece run .run in
       rw (turn-closes script run room (run-sound run ready open′) wide open′ h, open′)
       (rw (finished-puts turns room script next refl, append-nil) (sym (owed-ended script (run .table) (run .number) (run .at) h)), finished-stays turns room script next refl))
       (below-or-not (run .at) (length script))

@@ -14,8 +14,8 @@ abbrev pub decimal : ℕ → List ℕ
 decimal n = digitsBy 19 n
 
 -- three numbers on a line: a step's number, its answer, its result
-abbrev pub says : ℕ → ℕ → ℕ → List ℕ
-says number answer result = decimal number ++ (32 ∷ []) ++ decimal answer ++ (32 ∷ []) ++ decimal result ++ (10 ∷ [])
+abbrev pub stepLine : ℕ → ℕ → ℕ → List ℕ
+stepLine number answer result = decimal number ++ (32 ∷ []) ++ decimal answer ++ (32 ∷ []) ++ decimal result ++ (10 ∷ [])
 
 -- `station `
 abbrev pub stationWord : List ℕ

@@ -7,5 +7,5 @@ pub mod Closing
 pub mod Reading
 pub mod Telling
 pub mod Starting
-pub mod Filling
+pub mod Putting
 pub mod Printed

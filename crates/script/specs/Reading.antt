@@ -27,10 +27,10 @@ unfoldable pub pastLines : ℕ → List ℕ → ℕ → ℕ
 pastLines zero script at = at
 pastLines (suc most) script at = cond (ltb at (length script)) (pastLines most script (pastLine script at)) at
 
-abbrev pub readOf : ℕ → List ℕ → ℕ → Read
-readOf most script at = record { lines = length (linesFrom most script at); at = pastLines most script at }
+abbrev pub linesRead : ℕ → List ℕ → ℕ → Read
+linesRead most script at = record { lines = length (linesFrom most script at); at = pastLines most script at }
 
 -- the numbers of what is asked for, three for each
-unfoldable pub numbersOf : List Asked → List ℕ
-numbersOf [] = []
-numbersOf (x ∷ xs) = numbersFor x ++ numbersOf xs
+unfoldable pub numbersForAll : List Asked → List ℕ
+numbersForAll [] = []
+numbersForAll (x ∷ xs) = numbersFor x ++ numbersForAll xs

@@ -9,14 +9,14 @@ use Rattle.ground.specs.Choice.{ifDone}
 use Rattle.table.specs.declared.table.Table.{Table}
 use Rattle.table.specs.declared.stepped.Stepped.{Stepped}
 use Rattle.table.specs.Table.{stationAt}
-use Rattle.table.specs.Fresh.{freshOf}
+use Rattle.table.specs.Fresh.{freshTableOf}
 use Rattle.steps.specs.Running.{askedStep}
 use Rattle.table.specs.Way.{onTheWay, atStations}
 use Rattle.script.specs.declared.words.Numeral.{Numeral}
 use Rattle.script.specs.declared.words.Numeral.the-variants.{Unreadable, Reads}
 use Rattle.script.specs.Words.{upTo, past}
 use Rattle.script.specs.Lines.{lineOf, stationsOf}
-use Rattle.script.specs.Decimal.{says, stationLine, wayLine, totalLine}
+use Rattle.script.specs.Decimal.{stepLine, stationLine, wayLine, totalLine}
 
 -- the longest script
 abbrev pub mostBytes : ℕ
@@ -39,15 +39,15 @@ runFrom (suc lines) t n [] = closing t
 runFrom (suc lines) t n (b ∷ bs) =
     let rest = b ∷ bs in
     let s = askedStep t (lineOf (upTo 10 rest)) in
-    says n (s .answer) (s .result) ++ runFrom lines (s .table) (n + 1) (past 10 rest)
+    stepLine n (s .answer) (s .result) ++ runFrom lines (s .table) (n + 1) (past 10 rest)
 
 -- a script that does not start prints one line
 abbrev pub started : Stepped → List ℕ → List ℕ
-started made rest = ifDone (made .answer) (runFrom (length rest) (made .table) 1 rest) (says 0 (made .answer) 0)
+started made rest = ifDone (made .answer) (runFrom (length rest) (made .table) 1 rest) (stepLine 0 (made .answer) 0)
 
 abbrev pub openedBy : Numeral → List ℕ → List ℕ
-openedBy Unreadable rest = says 0 badLine 0
-openedBy (Reads count) rest = started (freshOf count) rest
+openedBy Unreadable rest = stepLine 0 badLine 0
+openedBy (Reads count) rest = started (freshTableOf count) rest
 
 unfoldable pub outputOf : List ℕ → List ℕ
-outputOf script = cond (ltb mostBytes (length script)) (says 0 longScript 0) (openedBy (stationsOf (upTo 10 script)) (past 10 script))
+outputOf script = cond (ltb mostBytes (length script)) (stepLine 0 longScript 0) (openedBy (stationsOf (upTo 10 script)) (past 10 script))

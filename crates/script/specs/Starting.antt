@@ -11,12 +11,12 @@ use Rattle.ground.specs.Refusals.{Refusal, when, answerOf}
 use Rattle.ground.specs.Choice.{ifDone}
 use Rattle.station.specs.Sound.{countSound}
 use Rattle.table.specs.declared.stepped.Stepped.{Stepped}
-use Rattle.table.specs.Fresh.{blankTable, freshOf}
+use Rattle.table.specs.Fresh.{blankTable, freshTableOf}
 use Rattle.script.specs.declared.words.Numeral.{Numeral}
 use Rattle.script.specs.declared.words.Numeral.the-variants.{Unreadable, Reads}
 use Rattle.script.specs.declared.starting.Started.{Started}
 use Rattle.script.specs.declared.starting.Put.{Put}
-use Rattle.script.specs.Decimal.{says}
+use Rattle.script.specs.Decimal.{stepLine}
 use Rattle.script.specs.Lines.{stationsOf}
 use Rattle.script.specs.Script.{mostBytes}
 use Rattle.script.specs.Reading.{lineAt, pastLine}
@@ -34,7 +34,7 @@ startWith made at =
 
 abbrev pub startFor : Numeral → ℕ → Started
 startFor Unreadable at = notStarted badLine
-startFor (Reads count) at = startWith (freshOf count) at
+startFor (Reads count) at = startWith (freshTableOf count) at
 
 -- the first line names no number of stations, or one that no table has
 abbrev pub namesNone : Numeral → Bool
@@ -56,22 +56,22 @@ startedOf script = cond (ltb mostBytes (length script)) (notStarted longScript) 
 
 -- `0 13 0` and its like
 abbrev pub answerLine : ℕ → List ℕ
-answerLine answer = says 0 answer 0
+answerLine answer = stepLine 0 answer 0
 
 -- room for the longest line of a step
 abbrev pub stepRoom : ℕ
 stepRoom = 64
 
-abbrev pub putRefusals : List ℕ → List Refusal
-putRefusals out = when (ltb (length out) stepRoom) shortBuffer ∷ []
+abbrev pub putAnswerRefusals : List ℕ → List Refusal
+putAnswerRefusals out = when (ltb (length out) stepRoom) shortBuffer ∷ []
 
 -- refused by 14: then no byte is put
-abbrev pub answerPut : ℕ → List ℕ → List ℕ
-answerPut answer out = cond (ltb (length out) stepRoom) [] (answerLine answer)
+abbrev pub answerBytes : ℕ → List ℕ → List ℕ
+answerBytes answer out = cond (ltb (length out) stepRoom) [] (answerLine answer)
 
-abbrev pub putOf : ℕ → List ℕ → Put
-putOf answer out = record { answer = answerOf (putRefusals out); result = length (answerPut answer out) }
+abbrev pub putAnswerOf : ℕ → List ℕ → Put
+putAnswerOf answer out = record { answer = answerOf (putAnswerRefusals out); result = length (answerBytes answer out) }
 
 pub record PutsAnswer (answer : ℕ) (out : List ℕ) (r : Put) (later : List ℕ) : Type 0 where
-  pub put : r ≡ putOf answer out
-  pub lent : later ≡ sets out 0 (answerPut answer out)
+  pub put : r ≡ putAnswerOf answer out
+  pub lent : later ≡ sets out 0 (answerBytes answer out)

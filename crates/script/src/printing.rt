@@ -5,7 +5,7 @@ ghost use mathlib.Core.List.{[], _∷_, _++_};
 ghost use Prim.Native.Nat.{_+_, _≤_};
 ghost use lib.ListN.{length};
 ghost use lib.Seq.{sets};
-ghost use Rattle.script.specs.Decimal.{decimal, says, stationLine, wayLine, totalLine};
+ghost use Rattle.script.specs.Decimal.{decimal, stepLine, stationLine, wayLine, totalLine};
 
 pub(crate) fn put_text(out: &mut [u8], at: usize, text: &[u8]) -> usize
     requires { ⌜ at + length (now text) ≤ length (now out) ⌝ }
@@ -71,7 +71,7 @@ fn put_last(out: &mut [u8], at: usize, text: &[u8], n: u64) -> usize
 // Three numbers on a line.
 pub(crate) fn put_says(out: &mut [u8], at: usize, number: u64, answer: u64, result: u64) -> usize
     requires { ⌜ at + 64 ≤ length (now out) ⌝ }
-    ensures { λ r. ⌜ (r ≡ at + length (says number answer result)) × (now (out .exit) ≡ sets (now (out .entry)) at (says number answer result)) ⌝ }
+    ensures { λ r. ⌜ (r ≡ at + length (stepLine number answer result)) × (now (out .exit) ≡ sets (now (out .entry)) at (stepLine number answer result)) ⌝ }
 {
     let second = put_decimal(out, at, number);
     let third = put_named(out, second, b" ", answer);

@@ -5,7 +5,7 @@ ghost use Prim.Native.Nat.{_+_, _*_, _≤_};
 ghost use lib.ListN.{length, drop};
 ghost use lib.Seq.{sets};
 ghost use Rattle.steps.specs.Running.{numbersFor};
-ghost use Rattle.script.specs.Reading.{lineAt, linesFrom, numbersOf, pastLine, readOf};
+ghost use Rattle.script.specs.Reading.{lineAt, linesFrom, numbersForAll, pastLine, linesRead};
 use crate::lines::line_of;
 use crate::words::index_of;
 use steps::asked::Asked;
@@ -62,7 +62,7 @@ pub struct Read {
 // Up to so many lines from a position on.
 pub(crate) fn read_lines(script: &[u8], start: usize, most: usize, codes: &mut [u64]) -> Read
     requires { ⌜ 3 * most ≤ length (now codes) ⌝ }
-    ensures { λ r. ⌜ (r ≡ readOf most (now (script .entry)) start) × (now (codes .exit) ≡ sets (now (codes .entry)) 0 (numbersOf (linesFrom most (now (script .entry)) start))) ⌝ }
+    ensures { λ r. ⌜ (r ≡ linesRead most (now (script .entry)) start) × (now (codes .exit) ≡ sets (now (codes .entry)) 0 (numbersForAll (linesFrom most (now (script .entry)) start))) ⌝ }
 {
     let mut at = start;
     let mut lines: usize = 0;

@@ -10,7 +10,7 @@ use Rattle.rules.specs.Report.{noReport}
 use Rattle.ground.specs.Refusals.{answerOf}
 use Rattle.rules.specs.Stock.{amountSound}
 use Rattle.rules.specs.Rules.{fill}
-use Rattle.rules.specs.Taking.{takeOf}
+use Rattle.rules.specs.Taking.{fiveRules}
 use Rattle.ground.proofs.Tests.{both-hold}
 use Rattle.ground.proofs.Refusing.{passed}
 use Rattle.ground.proofs.Choices.{answer-told}
@@ -28,10 +28,10 @@ pub record Added (s : Station) (amount : ℕ) : Type 0 where
 
 pub added : (s : Station) (amount : ℕ) → addAnswer s amount ≡ 0 → Added s amount
 added s amount e =
-    let one = passed (not (stationSound s)) 0 e in
-    let two = passed (not (amountSound amount)) 3 (one .1) in
-    let three = passed (ltb mostIntake (s .intake + amount)) 4 (two .1) in
-    let four = passed (ltb mostValue (s .value + amount)) 9 (three .1) in
+    let one = passed (not (stationSound s)) _ e in
+    let two = passed (not (amountSound amount)) _ (one .1) in
+    let three = passed (ltb mostIntake (s .intake + amount)) _ (two .1) in
+    let four = passed (ltb mostValue (s .value + amount)) _ (three .1) in
     record { sound = not-false _ (one .0); intake = ltb-false _ _ (three .0); value = ltb-false _ _ (four .0) }
 
 -- a message that is shown is for another station of the table
@@ -42,9 +42,9 @@ pub record Peer (s : Station) (k : ℕ) : Type 0 where
 
 pub shown : (s : Station) (to : ℕ) → showAnswer s to ≡ 0 → Peer s to
 shown s to e =
-    let one = passed (not (stationSound s)) 0 e in
-    let two = passed (not (ltb to (s .count))) 1 (one .1) in
-    let three = passed (eqb to (s .number)) 2 (two .1) in
+    let one = passed (not (stationSound s)) _ e in
+    let two = passed (not (ltb to (s .count))) _ (one .1) in
+    let three = passed (eqb to (s .number)) _ (two .1) in
     record { sound = not-false _ (one .0); below = ltb-true _ _ (not-false _ (two .0)); other = eqb-false _ _ (three .0) }
 
 -- what a message that the rules see has passed
@@ -56,10 +56,10 @@ pub record Met (s : Station) (m : Message) : Type 0 where
 
 pub met : (s : Station) (m : Message) → meetAnswer s m ≡ 0 → Met s m
 met s m e =
-    let one = passed (not (stationSound s)) 0 e in
-    let two = passed (not (messageSound m)) 8 (one .1) in
-    let three = passed (not (endsBelow s m)) 1 (two .1) in
-    let four = passed (not (eqb (m .to) (s .number))) 10 (three .1) in
+    let one = passed (not (stationSound s)) _ e in
+    let two = passed (not (messageSound m)) _ (one .1) in
+    let three = passed (not (endsBelow s m)) _ (two .1) in
+    let four = passed (not (eqb (m .to) (s .number))) _ (three .1) in
     record {
       sound = not-false _ (one .0);
       message = not-false _ (two .0);
@@ -77,11 +77,11 @@ pub record Received (s : Station) (m : Message) : Type 0 where
 
 pub received : (s : Station) (m : Message) → receiveAnswer s m ≡ 0 → Received s m
 received s m e =
-    let one = passed (not (stationSound s)) 0 e in
-    let two = passed (not (messageSound m)) 8 (one .1) in
-    let three = passed (not (endsBelow s m)) 1 (two .1) in
-    let four = passed (not (eqb (m .to) (s .number))) 10 (three .1) in
-    let five = passed (ltb mostValue (fill (sideFor s (m .from)) m .side .value)) 9 (four .1) in
+    let one = passed (not (stationSound s)) _ e in
+    let two = passed (not (messageSound m)) _ (one .1) in
+    let three = passed (not (endsBelow s m)) _ (two .1) in
+    let four = passed (not (eqb (m .to) (s .number))) _ (three .1) in
+    let five = passed (ltb mostValue (fill (sideFor s (m .from)) m .side .value)) _ (four .1) in
     record {
       sound = not-false _ (one .0);
       message = not-false _ (two .0);
@@ -105,7 +105,7 @@ draw-tells s amount = answer-told (λ (o : Outcome). o .answer) (drawAnswer s am
 
 pub receive-tells : (s : Station) (m : Message) → receiveOf s m .answer ≡ answerOf (receiveRefusals s m)
 unfolding receiveOf
-receive-tells s m = answer-told (λ (o : Outcome). o .answer) (receiveAnswer s m) (take-in s m (takeOf (sideFor s (m .from)) m)) _ refl refl
+receive-tells s m = answer-told (λ (o : Outcome). o .answer) (receiveAnswer s m) (take-in s m (fiveRules (sideFor s (m .from)) m)) _ refl refl
 
 pub show-tells : (s : Station) (to : ℕ) → showOf s to .answer ≡ answerOf (showRefusals s to)
 unfolding showOf

@@ -6,7 +6,7 @@ use borrow.Author.Tests.{le-leb, le-ltb, eq-eqb}
 use Rattle.rules.specs.declared.message.Message.{Message}
 use Rattle.rules.specs.declared.stock.Stock.{Stock}
 use Rattle.rules.specs.declared.taking.Taken.{Taken}
-use Rattle.rules.specs.Taking.{takeOf, takeAnswer, takenOf}
+use Rattle.rules.specs.Taking.{fiveRules, takeAnswer, takenOf}
 use Rattle.rules.specs.Stock.{stocked, addToAnswer, addDone, addedTo, drawFromAnswer, drawDone, drawnFrom}
 use Rattle.ground.proofs.Refusing.{answer-before}
 use Rattle.ground.proofs.Choices.{when-done, when-refused}
@@ -53,7 +53,7 @@ module _ (s : Station) (m : Message) where
   pub receive-unmet : (meetAnswer s m ≡ 0 → ⊥) → refused (meetAnswer s m) s ≡ receiveOf s m
   unfolding receiveOf
   receive-unmet f =
-      let d = received s m (takeOf (sideFor s (m .from)) m) in
+      let d = received s m (fiveRules (sideFor s (m .from)) m) in
       when-refused (meetAnswer s m) d (refused (meetAnswer s m) s) f ∙ ap (λ (n : ℕ). answered n s d) (sym (answer-before (meetRefusals s m) (fillRefusals s m) f))
 
   module _ (e : meetAnswer s m ≡ 0) where
@@ -78,10 +78,10 @@ module _ (s : Station) (m : Message) where
     pub receive-refused : (takenOf (sideFor s (m .from)) m .answer ≡ 0 → ⊥) → refused (takenOf (sideFor s (m .from)) m .answer) s ≡ receiveOf s m
     unfolding receiveOf
     receive-refused f =
-        rw told-answer (when-refused (receiveAnswer s m) (received s m (takeOf (sideFor s (m .from)) m)) (refused (receiveAnswer s m) s) (λ z. f (told-answer ∙ z)))
+        rw told-answer (when-refused (receiveAnswer s m) (received s m (fiveRules (sideFor s (m .from)) m)) (refused (receiveAnswer s m) s) (λ z. f (told-answer ∙ z)))
 
     pub receive-done : takenOf (sideFor s (m .from)) m .answer ≡ 0 → received s m (takenOf (sideFor s (m .from)) m) ≡ receiveOf s m
     unfolding receiveOf
     receive-done z =
         let x = sideFor s (m .from) in
-        ap (λ (t : Taken). received s m t) (take-done x m (sym (take-tells x m) ∙ z)) ∙ when-done (received s m (takeOf x m)) _ (sym told-answer ∙ z)
+        ap (λ (t : Taken). received s m t) (take-done x m (sym (take-tells x m) ∙ z)) ∙ when-done (received s m (fiveRules x m)) _ (sym told-answer ∙ z)

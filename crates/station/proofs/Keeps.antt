@@ -42,8 +42,8 @@ blank-cells number count k h = rw (getD-replicate mostStations k noSlot noSlot h
 pub fresh-sound : (number count : ℕ) → freshAnswer number count ≡ 0 → stationSound (freshOf number count .station) ≡ true
 unfolding freshOf stationSound
 fresh-sound number count e =
-    let one = passed (not (countSound count)) 0 e in
-    let two = passed (not (ltb number count)) 1 (one .1) in
+    let one = passed (not (countSound count)) _ e in
+    let two = passed (not (ltb number count)) _ (one .1) in
     rw (e, not-false (countSound count) (one .0), not-false (ltb number count) (two .0), all-from _ mostStations (blank-cells number count))
 
 pub add-keeps : (s : Station) (amount : ℕ) → stationSound s ≡ true → stationSound (addOf s amount .station) ≡ true

@@ -17,7 +17,7 @@ use Rattle.rules.specs.Half.{halfAbove}
 use Rattle.rules.specs.Side.{putValue, putSlot}
 use Rattle.station.specs.Sound.{slotSound, tokenSound}
 use Rattle.rules.specs.Rules.{acts, rests, agree, fill, fillBy, dropSlot, dropSlotBy, openSlot, openSlotBy, destinationShown, dropTokenBy, makeTokenBy}
-use Rattle.rules.specs.Taking.{takeOf}
+use Rattle.rules.specs.Taking.{fiveRules}
 use Rattle.ground.proofs.Tests.{needed}
 use Rattle.rules.proofs.Signed.{half-cut}
 use Rattle.station.proofs.Parts.{SoundMessage}
@@ -99,8 +99,8 @@ module _ {o x : Side} (w : SoundSide o x) where
       }))
 
 -- the five in order, where the value has room for the fill
-pub take-keeps : {o x : Side} (m : Message) → SoundSide o x → SoundMessage m → fill x m .side .value ≤ mostValue → SoundSide o (takeOf x m .side)
-unfolding takeOf
+pub take-keeps : {o x : Side} (m : Message) → SoundSide o x → SoundMessage m → fill x m .side .value ≤ mostValue → SoundSide o (fiveRules x m .side)
+unfolding fiveRules
 take-keeps {x = x} m w shows room =
     let a = fill x m .side in
     let b = dropSlot a m .side in

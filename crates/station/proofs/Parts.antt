@@ -14,7 +14,7 @@ use Rattle.station.specs.Held.{slotFor, tokenFor}
 use Rattle.ground.specs.Below.{allBelow}
 use Rattle.ground.specs.Clocks.{clockSound}
 use Rattle.station.specs.Sound.{slotSound, tokenSound, holdsNothing, isPeer, cellsSound, stationSound, messageSound}
-use Rattle.rules.specs.Taking.{tokenSmall, tokenFits}
+use Rattle.rules.specs.Taking.{tokenSmall, TokenInRange}
 use Rattle.ground.proofs.Tests.{needed}
 use Rattle.ground.proofs.Below.{all-at, all-from}
 
@@ -88,7 +88,7 @@ message-parts m e =
       token = needed (tokenSound (m .token) (m .source)) (λ f. simp (f, and-false) at e);
     }
 
-pub token-fits : (h : HeldToken) (clock : SourceClock) → tokenSound h clock ≡ true → tokenFits h
+pub token-fits : (h : HeldToken) (clock : SourceClock) → tokenSound h clock ≡ true → TokenInRange h
 token-fits NoToken clock e = tt
 token-fits (OneToken t) clock e = leb-true _ _ (needed (leb (t .quantity) mostValue) (λ f. simp (f, and-false) at e))
 

@@ -17,7 +17,7 @@ use Rattle.ground.specs.Refusals.{Refusal, when, answerOf}
 use Rattle.ground.specs.Choice.{ifDone}
 use Rattle.rules.specs.Stock.{amountSound}
 use Rattle.rules.specs.Rules.{fill}
-use Rattle.rules.specs.Taking.{takeOf}
+use Rattle.rules.specs.Taking.{fiveRules}
 use Rattle.station.specs.declared.station.Station.{Station}
 use Rattle.station.specs.declared.message.Shown.{Shown}
 use Rattle.station.specs.declared.outcome.Outcome.{Outcome}
@@ -164,4 +164,4 @@ abbrev pub received : Station → Message → Taken → Outcome
 received s m t = told (t .result) (t .report) (putSide s (m .from) (t .side))
 
 unfoldable pub receiveOf : Station → Message → Outcome
-receiveOf s m = answered (receiveAnswer s m) s (received s m (takeOf (sideFor s (m .from)) m))
+receiveOf s m = answered (receiveAnswer s m) s (received s m (fiveRules (sideFor s (m .from)) m))

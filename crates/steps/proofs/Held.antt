@@ -23,7 +23,7 @@ use Rattle.station.specs.Side.{putSide}
 use Rattle.steps.specs.declared.cells.Cells.{Cells}
 use Rattle.steps.specs.declared.planning.Change.{Change}
 use Rattle.steps.specs.declared.planning.Change.the-variants.{AtSide}
-use Rattle.table.specs.Table.{noStation, stationIn}
+use Rattle.table.specs.Table.{stationPastEnd, stationIn}
 use Rattle.steps.specs.Cells.{cellsFor, eachFrom, cellAt, cellsOf}
 
 -- cells that hold nothing
@@ -64,7 +64,7 @@ pub cells-same : (stations : List Station) (k : ℕ) (s : Station) → ((i : ℕ
 cells-same stations k s e = each-same (cellAt (set stations k s)) (cellAt stations) (λ p. at (p / 16) (p % 16)) 256 0
   where
     at : (q i : ℕ) → cellsFor (stationIn (set stations k s) q) i ≡ cellsFor (stationIn stations q) i
-    at q i = stored (λ (v : Station). cellsFor v i ≡ cellsFor (stationIn stations q) i) stations k q noStation (λ f. rw f (e i)) refl
+    at q i = stored (λ (v : Station). cellsFor v i ≡ cellsFor (stationIn stations q) i) stations k q stationPastEnd (λ f. rw f (e i)) refl
 
 -- a station that holds something else for station j alone changes one of the row
 cells-put : (stations : List Station) (k j : ℕ) (s : Station) → k < mostStations → j < mostStations
@@ -89,7 +89,7 @@ cells-put stations k j s h g e =
         rw same (getD-set-same (cellsOf stations) at new noCells (rw (cells-length stations) (omega arith)) ∙ sym (cells-at next k j h g))
     by p l false z =
         getD-set-other (cellsOf stations) at p new noCells (eqb-false p at z) ∙ cell-there stations p l
-        ∙ stored (λ (v : Station). cellAt stations p ≡ cellsFor v (p % 16)) stations k (p / 16) noStation (λ f. rw f (sym (e (p % 16) (λ r. eqb-false p at z (omega arith))))) refl
+        ∙ stored (λ (v : Station). cellAt stations p ≡ cellsFor v (p % 16)) stations k (p / 16) stationPastEnd (λ f. rw f (sym (e (p % 16) (λ r. eqb-false p at z (omega arith))))) refl
         ∙ sym (cell-there next p l)
 
 -- another side to station j is seen by station j alone

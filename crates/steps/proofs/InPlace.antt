@@ -18,7 +18,7 @@ use Rattle.ground.specs.Refusals.{when, answerOf}
 use Rattle.rules.specs.Report.{noReport}
 use Rattle.rules.specs.Rules.{fill}
 use Rattle.rules.specs.Stock.{amountSound, stocked, addedTo, drawnFrom, addDone, drawDone}
-use Rattle.rules.specs.Taking.{takeOf, refusedTaking, takenOf, messageSmall, tokenSmall}
+use Rattle.rules.specs.Taking.{fiveRules, refusedTaking, takenOf, messageSmall, tokenSmall}
 use Rattle.ground.proofs.Tests.{both-hold, needed}
 use Rattle.ground.proofs.Refusing.{passed}
 use Rattle.ground.specs.Choice.{ifDone}
@@ -40,7 +40,7 @@ use Rattle.steps.specs.Looking.{below, placeLookedAt, seatLookedAt, look
 use Rattle.table.specs.Table.{stationAt, waitingAt}
 use Rattle.table.specs.Sound.{tableSound}
 use Rattle.table.specs.Stepped.{answeredStep, did}
-use Rattle.steps.specs.Steps.{sent, stepOf}
+use Rattle.steps.specs.Steps.{sendStep, stepOf}
 use Rattle.steps.specs.Running.{askedStep}
 use Rattle.steps.specs.Planning.{planned, stockDone, stockPlan, messageBy, placePlan, sendAnswer, sendPlan, sideDone, sidePlan, actedIn, deliverPlan, losePlan, planAt, changed}
 use Rattle.steps.proofs.Flags.{lowest-flag}
@@ -67,22 +67,22 @@ stock-by t k j zero value intake d e = rw e
 stock-by t k j (suc n) value intake d e = refl
 
 -- a send that is not refused shows the sender's own message
-send-by : (t : Table) (k j n p : ℕ) (m m′ : Message) → (n ≡ 0 → m ≡ m′) → stepped t k j (planned n (placePlan p p (One m))) ≡ answeredStep n t (sent t p m′)
+send-by : (t : Table) (k j n p : ℕ) (m m′ : Message) → (n ≡ 0 → m ≡ m′) → stepped t k j (planned n (placePlan p p (One m))) ≡ answeredStep n t (sendStep t p m′)
 send-by t k j zero p m m′ e = rw (e refl)
 send-by t k j (suc n) p m m′ e = refl
 
 -- a delivery in which no rule acts leaves the table
-acted-by : (t : Table) (k j : ℕ) (m : Message) (b : Bool) → let r = takeOf (sideFor (stationAt t k) j) m in actedIn (r .report) ≡ b
+acted-by : (t : Table) (k j : ℕ) (m : Message) (b : Bool) → let r = fiveRules (sideFor (stationAt t k) j) m in actedIn (r .report) ≡ b
     → stepped t k j (sideDone r) ≡ did (r .result) (r .report) (changed t k j (AtSide (r .side)))
 acted-by t k j m true e = rw e
 acted-by t k j m false e =
     let x = sideFor (stationAt t k) j in
     rw (e, rests-same x m e, side-same (stationAt t k) j, station-same t k)
 
-deliver-by : (t : Table) (k j n : ℕ) (m : Message) → let x = sideFor (stationAt t k) j in let r = ifDone n (takeOf x m) (refusedTaking n x) in
-    stepped t k j (sidePlan r) ≡ answeredStep n t (did (takeOf x m .result) (takeOf x m .report) (changed t k j (AtSide (takeOf x m .side))))
-unfolding takeOf
-deliver-by t k j zero m = acted-by t k j m (actedIn (takeOf (sideFor (stationAt t k) j) m .report)) refl
+deliver-by : (t : Table) (k j n : ℕ) (m : Message) → let x = sideFor (stationAt t k) j in let r = ifDone n (fiveRules x m) (refusedTaking n x) in
+    stepped t k j (sidePlan r) ≡ answeredStep n t (did (fiveRules x m .result) (fiveRules x m .report) (changed t k j (AtSide (fiveRules x m .side))))
+unfolding fiveRules
+deliver-by t k j zero m = acted-by t k j m (actedIn (fiveRules (sideFor (stationAt t k) j) m .report)) refl
 deliver-by t k j (suc n) m = refl
 
 module _ (t : Table) (sound : tableSound t ≡ true) where
@@ -136,7 +136,7 @@ module _ (t : Table) (sound : tableSound t ≡ true) where
   send-message : (from to p : ℕ) → sendAnswer from to (t .count) p ≡ 0 → let l = lookedAt from to in
       messageBy from to (sideFor (stationAt t (l .station)) (l .peer)) ≡ messageFor (stationAt t from) to
   send-message from to p e =
-      let one = passed (not (ltb from (t .count) && ltb to (t .count))) 1 e in
+      let one = passed (not (ltb from (t .count) && ltb to (t .count))) _ e in
       let ends = both-hold (ltb from (t .count)) (ltb to (t .count)) (not-false _ (one .0)) in
       let h = ltb-true from (t .count) (ends .0) in
       let g = ltb-true to (t .count) (ends .1) in

@@ -26,7 +26,7 @@ use Rattle.pool.specs.Pool.{mostPlaces, isEmpty, lowestEmpty}
 use Rattle.table.specs.Table.{stationAt, waitingAt, putStation}
 use Rattle.table.specs.Sound.{placeSound, tableSound}
 use Rattle.table.specs.Stepped.{answeredStep}
-use Rattle.steps.specs.Steps.{delivered, overfills, stepRefusals, stepDone, stepOf}
+use Rattle.steps.specs.Steps.{deliverStep, overfills, stepRefusals, stepDone, stepOf}
 use Rattle.steps.specs.Running.{askedStep}
 use Rattle.table.proofs.Tables.{Waits, SoundTable, table-parts, table-whole, waits}
 use Rattle.table.proofs.Puts.{seat-of, moved, place-whole, put-station, put-place}
@@ -40,10 +40,10 @@ pub record Sends (t : Table) (from to : ℕ) : Type 0 where
 
 pub sends : (t : Table) (from to : ℕ) → answerOf (stepRefusals t (Send from to)) ≡ 0 → Sends t from to
 sends t from to e =
-    let one = passed (not (tableSound t)) 0 e in
-    let two = passed (not (ltb from (t .count) && ltb to (t .count))) 1 (one .1) in
-    let three = passed (eqb from to) 2 (two .1) in
-    let four = passed (not (ltb (lowestEmpty (t .pool)) mostPlaces)) 5 (three .1) in
+    let one = passed (not (tableSound t)) _ e in
+    let two = passed (not (ltb from (t .count) && ltb to (t .count))) _ (one .1) in
+    let three = passed (eqb from to) _ (two .1) in
+    let four = passed (not (ltb (lowestEmpty (t .pool)) mostPlaces)) _ (three .1) in
     let ends = both-hold (ltb from (t .count)) (ltb to (t .count)) (not-false _ (two .0)) in
     record {
       from-below = ltb-true _ _ (ends .0);
@@ -72,7 +72,7 @@ module _ {t : Table} (w : SoundTable t) where
         e,
       )
 
-  taken-seated : (m : Message) → Waits m (t .count) → overfills t (One m) ≡ false → SoundTable (delivered t (One m) .table)
+  taken-seated : (m : Message) → Waits m (t .count) → overfills t (One m) ≡ false → SoundTable (deliverStep t (One m) .table)
   unfolding receiveOf
   taken-seated m there e =
       let s = stationAt t (m .to) in
@@ -90,16 +90,16 @@ module _ {t : Table} (w : SoundTable t) where
   -- each step that is not refused, by its own reason
   done-keeps : (step : Step) → answerOf (stepRefusals t step) ≡ 0 → SoundTable (stepDone t step .table)
   done-keeps (Add k amount) e =
-      let one = passed (not (tableSound t)) 0 e in
-      let two = passed (not (ltb k (t .count))) 1 (one .1) in
-      let three = passed (not (amountSound amount)) 3 (two .1) in
-      let four = passed (ltb mostIntake (stationAt t k .intake + amount)) 4 (three .1) in
-      let five = passed (ltb mostValue (stationAt t k .value + amount)) 9 (four .1) in
+      let one = passed (not (tableSound t)) _ e in
+      let two = passed (not (ltb k (t .count))) _ (one .1) in
+      let three = passed (not (amountSound amount)) _ (two .1) in
+      let four = passed (ltb mostIntake (stationAt t k .intake + amount)) _ (three .1) in
+      let five = passed (ltb mostValue (stationAt t k .value + amount)) _ (four .1) in
       let seat = seat-of w k (ltb-true _ _ (not-false _ (two .0))) in
       put-station k w (moved seat (stock-sound (stationAt t k) _ _ (seat .sound) (ltb-false _ _ (five .0)) (ltb-false _ _ (four .0))) (refl, refl))
   done-keeps (Draw k amount) e =
-      let one = passed (not (tableSound t)) 0 e in
-      let two = passed (not (ltb k (t .count))) 1 (one .1) in
+      let one = passed (not (tableSound t)) _ e in
+      let two = passed (not (ltb k (t .count))) _ (one .1) in
       less-keeps k (stationAt t k .value - amount) (ltb-true _ _ (not-false _ (two .0))) (omega arith)
   done-keeps (Send from to) e =
       let z = sends t from to e in
@@ -108,15 +108,15 @@ module _ {t : Table} (w : SoundTable t) where
       put-place (lowestEmpty (t .pool)) (One (messageFor (stationAt t from) to)) w
       (place-whole (record { sound = message-sound (stationAt t from) to shows; from = omega (arith, seat .number, z .from-below); to = z .to-below }))
   done-keeps (Deliver p) e =
-      let one = passed (not (tableSound t)) 0 e in
-      let two = passed (not (ltb p mostPlaces)) 6 (one .1) in
+      let one = passed (not (tableSound t)) _ e in
+      let two = passed (not (ltb p mostPlaces)) _ (one .1) in
       by (waitingAt t p) (w .places p (ltb-true _ _ (not-false _ (two .0)))) (two .1)
     where
       by : (v : Waiting) → placeSound v (t .count) ≡ true
           → answerOf (when (isEmpty v) 8 ∷ when (overfills t v) 10 ∷ []) ≡ 0
-          → SoundTable (delivered t v .table)
+          → SoundTable (deliverStep t v .table)
       by Empty s z = w
-      by (One m) s z = taken-seated m (waits m (t .count) s) (passed (overfills t (One m)) 9 z .0)
+      by (One m) s z = taken-seated m (waits m (t .count) s) (passed (overfills t (One m)) _ z .0)
   done-keeps (Lose p) e = put-place p Empty w refl
 
 pub step-keeps : (t : Table) (step : Step) → tableSound t ≡ true → tableSound (stepOf t step .table) ≡ true

@@ -74,7 +74,7 @@ lose-pool p Empty h = tt
 lose-pool p (One m) h = h
 
 here : (p : ℕ) → placeAnswer p ≡ 0 → p < mostPlaces
-here p e = ltb-true p mostPlaces (not-false _ (passed (not (ltb p mostPlaces)) 6 e .0))
+here p e = ltb-true p mostPlaces (not-false _ (passed (not (ltb p mostPlaces)) _ e .0))
 
 plan-pool : (count : ℕ) (asked : Asked) (intake : ℕ) (x : Side) (w : Waiting) (free : ℕ) → InPool (planAt count asked intake x w free .change)
 plan-pool count NoStep intake x w free = tt
@@ -83,9 +83,9 @@ plan-pool count (OneStep (Draw k amount)) intake x w free = let r = drawnFrom (x
 plan-pool count (OneStep (Send from to)) intake x w free =
     by-plan (sendAnswer from to count free) (placePlan free free (One (messageBy from to x)))
     (λ e.
-    let one = passed (not (ltb from count && ltb to count)) 1 e in
-    let two = passed (eqb from to) 2 (one .1) in
-    ltb-true free mostPlaces (not-false _ (passed (not (ltb free mostPlaces)) 5 (two .1) .0)))
+    let one = passed (not (ltb from count && ltb to count)) _ e in
+    let two = passed (eqb from to) _ (one .1) in
+    ltb-true free mostPlaces (not-false _ (passed (not (ltb free mostPlaces)) _ (two .1) .0)))
 plan-pool count (OneStep (Deliver p)) intake x w free = by-plan (placeAnswer p) (deliverBy w x) (λ e. deliver-pool w x)
 plan-pool count (OneStep (Lose p)) intake x w free = by-plan (placeAnswer p) (loseBy p w) (λ e. lose-pool p w (here p e))
 

@@ -23,16 +23,16 @@ use Rattle.table.specs.declared.stepped.Stepped.{Stepped}
 use Rattle.table.specs.declared.table.Table.{Table}
 use Rattle.table.specs.Table.{waitingAt}
 use Rattle.table.specs.Sound.{tableSound}
-use Rattle.steps.specs.Steps.{delivered, stepRefusals, stepDone, stepOf}
-use Rattle.steps.specs.Running.{stepNumbers, tells, askedIn, toldBy, leftBy, stepsIn, ranOf, toldOf, Runs, reportOf, ranBy}
+use Rattle.steps.specs.Steps.{deliverStep, stepRefusals, stepDone, stepOf}
+use Rattle.steps.specs.Running.{stepNumbers, tells, askedIn, allTold, leftBy, stepsIn, ranOf, toldInRun, Runs, reportOf, ranBy}
 
 pub ran-refused : (t : Table) (codes told : List ℕ) → tableSound t ≡ false → Runs t codes told (record { answer = 1; result = 0; table = t }) told
-unfolding ranOf toldOf
+unfolding ranOf toldInRun
 ran-refused t codes told e = record { ran = rw e; lent = rw e }
 
 pub ran-done : (t : Table) (codes told : List ℕ) {steps : ℕ} {r : Ran} {later : List ℕ} → tableSound t ≡ true → steps ≡ stepsIn codes told
-    → (r ≡ ranBy t steps codes) × (later ≡ sets told 0 (toldBy t (askedIn steps codes))) → Runs t codes told r later
-unfolding ranOf toldOf
+    → (r ≡ ranBy t steps codes) × (later ≡ sets told 0 (allTold t (askedIn steps codes))) → Runs t codes told r later
+unfolding ranOf toldInRun
 ran-done t codes told e f g = record { ran = rw (e, g .0, f); lent = rw (e, g .1, f) }
 
 -- five numbers before a step has told anything
@@ -47,8 +47,8 @@ one-ran t (Send from to) e = rw e
 one-ran t (Deliver p) e = rw e
 one-ran t (Lose p) e = rw e
 
-one-told : (t : Table) (step : Step) → tableSound t ≡ true → toldOf t (stepNumbers step) zeros ≡ tells (stepOf t step)
-unfolding toldOf askedIn toldBy
+one-told : (t : Table) (step : Step) → tableSound t ≡ true → toldInRun t (stepNumbers step) zeros ≡ tells (stepOf t step)
+unfolding toldInRun askedIn allTold
 one-told t (Add k amount) e = rw e
 one-told t (Draw k amount) e = rw e
 one-told t (Send from to) e = rw e
@@ -92,7 +92,7 @@ done-answers t (Draw k amount) = refl
 done-answers t (Send from to) = refl
 done-answers t (Deliver p) = by (waitingAt t p)
   where
-    by : (v : Waiting) → delivered t v .answer ≡ 0
+    by : (v : Waiting) → deliverStep t v .answer ≡ 0
     by Empty = refl
     by (One m) = refl
 done-answers t (Lose p) = refl

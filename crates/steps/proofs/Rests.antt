@@ -18,7 +18,7 @@ use Rattle.ground.specs.Limits.{lastClock}
 use Rattle.ground.proofs.Tests.{not-allowed}
 use Rattle.rules.specs.Side.{putValue, putDestination, putSlot, putToken}
 use Rattle.rules.specs.Rules.{acts, rests, agree, give, fillBy, fill, dropSlotBy, dropSlot, openSlotBy, openSlot, destinationShown, dropTokenBy, dropToken, makeTokenBy, makeToken}
-use Rattle.rules.specs.Taking.{takeOf}
+use Rattle.rules.specs.Taking.{fiveRules}
 use Rattle.station.specs.declared.station.Station.{Station}
 use Rattle.station.specs.Held.{noSlot, noToken}
 use Rattle.station.specs.Side.{sideFor, putSide}
@@ -57,8 +57,8 @@ module _ (x : Side) where
       let q = min (x .value) (l .quantity) in
       chosen (eqb (l .source .0) (x .source .0) && ltb (x .source .0) lastClock) q (give x l q) e
 
-pub rests-same : (x : Side) (m : Message) → actedIn (takeOf x m .report) ≡ false → takeOf x m .side ≡ x
-unfolding takeOf
+pub rests-same : (x : Side) (m : Message) → actedIn (fiveRules x m .report) ≡ false → fiveRules x m .side ≡ x
+unfolding fiveRules
 rests-same x m e =
     let one = fill x m in
     let two = dropSlot (one .side) m in

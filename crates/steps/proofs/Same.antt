@@ -16,7 +16,7 @@ use Rattle.ground.specs.Limits.{mostStations, mostIntake, mostValue}
 use Rattle.ground.specs.Refusals.{when, answerOf}
 use Rattle.rules.specs.Report.{noReport}
 use Rattle.rules.specs.Stock.{amountSound}
-use Rattle.rules.specs.Taking.{takeOf}
+use Rattle.rules.specs.Taking.{fiveRules}
 use Rattle.station.specs.declared.outcome.Outcome.{Outcome}
 use Rattle.station.specs.declared.station.Station.{Station}
 use Rattle.station.specs.Outcome.{answered}
@@ -97,7 +97,7 @@ module _ (t : Table) (sound : tableSound t ≡ true) (full : length (t .stations
       let at = waits m (t .count) (rw e at (w .places p h)) in
       let s = stationAt t (m .to) in
       let seat = seat-of w (m .to) (at .to) in
-      let r = takeOf (sideFor s (m .from)) m in
+      let r = fiveRules (sideFor s (m .from)) m in
       rw (
         sound,
         lt-ltb p mostPlaces h,

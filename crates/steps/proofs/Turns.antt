@@ -19,9 +19,9 @@ use Rattle.table.specs.declared.stepped.Stepped.{Stepped}
 use Rattle.table.specs.declared.table.Table.{Table}
 use Rattle.pool.specs.Pool.{mostPlaces}
 use Rattle.steps.specs.Looking.{below, placeLookedAt, seatLookedAt, flagsOf, freeFor}
-use Rattle.table.specs.Table.{noStation, stationAt, waitingAt, putStation}
+use Rattle.table.specs.Table.{stationPastEnd, stationAt, waitingAt, putStation}
 use Rattle.table.specs.Sound.{tableSound}
-use Rattle.steps.specs.Running.{askedBy, askedStep, tells, askedIn, toldBy, leftBy, ranBy}
+use Rattle.steps.specs.Running.{askedBy, askedStep, tells, askedIn, allTold, leftBy, ranBy}
 use Rattle.steps.specs.Cells.{cellsOf}
 use Rattle.steps.specs.Planning.{planAt, changed}
 use Rattle.steps.proofs.AskedFrom.{askedFrom, asked-start, asked-on, asked-ended}
@@ -37,7 +37,7 @@ pub record Going (codes told₀ : List ℕ) (steps : ℕ) (t₀ : Table) (told :
   pub flags : taken ≡ flagsOf (t .pool)
   pub held : cells ≡ cellsOf (t .stations)
   pub left : leftBy t (askedFrom codes steps n) ≡ leftBy t₀ (askedIn steps codes)
-  pub says : sets told (5 * n) (toldBy t (askedFrom codes steps n)) ≡ sets told₀ 0 (toldBy t₀ (askedIn steps codes))
+  pub says : sets told (5 * n) (allTold t (askedFrom codes steps n)) ≡ sets told₀ 0 (allTold t₀ (askedIn steps codes))
 
 pub set-out : (codes told : List ℕ) (steps : ℕ) {cells : List Cells} {taken : List ℕ} (t : Table) → tableSound t ≡ true → cells ≡ cellsOf (t .stations)
     → taken ≡ flagsOf (t .pool) → Going codes told steps t told t cells taken 0
@@ -51,13 +51,13 @@ module _ {codes told₀ : List ℕ} {steps : ℕ} {t₀ : Table} {told : List �
       → asked ≡ askedBy (getD codes (3 * n) 0) (getD codes (3 * n + 1) 0) (getD codes (3 * n + 2) 0) → s ≡ askedStep t asked
       → told′ ≡ sets told (5 * n) (tells s) → cells′ ≡ cellsOf (s .table .stations) → taken′ ≡ flagsOf (s .table .pool)
       → Going codes told₀ steps t₀ told′ (s .table) cells′ taken′ (n + 1)
-  unfolding leftBy toldBy
+  unfolding leftBy allTold
   turn {asked} s h a d p e f =
       let rest = askedFrom codes steps (n + 1) in
       let on : askedFrom codes steps n ≡ asked ∷ rest = rw a (asked-on codes steps n h) in
       let next : 5 * n + 5 ≡ 5 * (n + 1) = omega arith in
       let left : leftBy (s .table) rest ≡ leftBy t₀ (askedIn steps codes) = rw d (rw on at (g .left)) in
-      let says : sets told (5 * n) (tells s ++ toldBy (s .table) rest) ≡ sets told₀ 0 (toldBy t₀ (askedIn steps codes)) = rw d (rw on at (g .says)) in
+      let says : sets told (5 * n) (tells s ++ allTold (s .table) rest) ≡ sets told₀ 0 (allTold t₀ (askedIn steps codes)) = rw d (rw on at (g .says)) in
       record {
         count = omega arith;
         room = ap length p ∙ length-sets told (5 * n) (tells s) ∙ g .room;
@@ -65,11 +65,11 @@ module _ {codes told₀ : List ℕ} {steps : ℕ} {t₀ : Table} {told : List �
         flags = f;
         held = e;
         left = left;
-        says = then told (5 * n) (5 * (n + 1)) (tells s) (toldBy (s .table) rest) _ _ p refl next ∙ says;
+        says = then told (5 * n) (5 * (n + 1)) (tells s) (allTold (s .table) rest) _ _ p refl next ∙ says;
       }
 
-  pub ended : steps ≤ n → (record { answer = 0; result = steps; table = t } ≡ ranBy t₀ steps codes) × (told ≡ sets told₀ 0 (toldBy t₀ (askedIn steps codes)))
-  unfolding leftBy toldBy
+  pub ended : steps ≤ n → (record { answer = 0; result = steps; table = t } ≡ ranBy t₀ steps codes) × (told ≡ sets told₀ 0 (allTold t₀ (askedIn steps codes)))
+  unfolding leftBy allTold
   ended h =
       let e = asked-ended codes steps n h in
       let all : t ≡ leftBy t₀ (askedIn steps codes) = rw e at (g .left) in
@@ -85,7 +85,7 @@ found t asked p sound flags ei ef el ex ep en = rw (en, ep, ex, el, ef, ei, flag
 pub stocked : (t : Table) (k value intake : ℕ) → let s = stationAt t k in
     record {
       count = t .count;
-      stations = let once = set (t .stations) k (putStock s value (s .intake)) in let u = getD once k noStation in set once k (putStock u (u .value) intake);
+      stations = let once = set (t .stations) k (putStock s value (s .intake)) in let u = getD once k stationPastEnd in set once k (putStock u (u .value) intake);
       pool = t .pool;
     } ≡ putStation t k (putStock s value intake)
-stocked t k value intake = let s = stationAt t k in rw (set-twice (t .stations) k (putStock s value (s .intake)) noStation (λ u. putStock u (u .value) intake))
+stocked t k value intake = let s = stationAt t k in rw (set-twice (t .stations) k (putStock s value (s .intake)) stationPastEnd (λ u. putStock u (u .value) intake))

@@ -58,9 +58,9 @@ askedIn zero codes = []
 askedIn (suc n) codes = askedBy (getD codes 0 0) (getD codes 1 0) (getD codes 2 0) ∷ askedIn n (drop 3 codes)
 
 -- one after the other: all that is told, and the table that is left
-unfoldable pub toldBy : Table → List Asked → List ℕ
-toldBy t [] = []
-toldBy t (x ∷ xs) = let s = askedStep t x in tells s ++ toldBy (s .table) xs
+unfoldable pub allTold : Table → List Asked → List ℕ
+allTold t [] = []
+allTold t (x ∷ xs) = let s = askedStep t x in tells s ++ allTold (s .table) xs
 
 unfoldable pub leftBy : Table → List Asked → Table
 leftBy t [] = t
@@ -80,12 +80,12 @@ ranBy t steps codes = record { answer = done; result = steps; table = leftBy t (
 unfoldable pub ranOf : Table → List ℕ → List ℕ → Ran
 ranOf t codes told = cond (tableSound t) (ranBy t (stepsIn codes told) codes) (record { answer = notSound; result = 0; table = t })
 
-unfoldable pub toldOf : Table → List ℕ → List ℕ → List ℕ
-toldOf t codes told = cond (tableSound t) (sets told 0 (toldBy t (askedOf codes told))) told
+unfoldable pub toldInRun : Table → List ℕ → List ℕ → List ℕ
+toldInRun t codes told = cond (tableSound t) (sets told 0 (allTold t (askedOf codes told))) told
 
 pub record Runs (t : Table) (codes told : List ℕ) (r : Ran) (later : List ℕ) : Type 0 where
   pub ran : r ≡ ranOf t codes told
-  pub lent : later ≡ toldOf t codes told
+  pub lent : later ≡ toldInRun t codes told
 
 -- the report that the last three of five numbers tell
 abbrev pub reportOf : ℕ → ℕ → ℕ → Report

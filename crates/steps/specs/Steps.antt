@@ -11,7 +11,7 @@ use Rattle.ground.specs.Refusals.{Refusal, when, answerOf}
 use Rattle.rules.specs.Report.{noReport}
 use Rattle.rules.specs.Rules.{fill}
 use Rattle.rules.specs.Stock.{amountSound}
-use Rattle.rules.specs.Taking.{takeOf}
+use Rattle.rules.specs.Taking.{fiveRules}
 use Rattle.station.specs.declared.station.Station.{Station}
 use Rattle.station.specs.Side.{sideFor, putSide}
 use Rattle.station.specs.Steps.{putStock, messageFor}
@@ -27,31 +27,31 @@ use Rattle.table.specs.Sound.{unsound}
 use Rattle.table.specs.Stepped.{did, answeredStep}
 
 -- Add raises value and intake. Result: the new value.
-abbrev pub added : Table → ℕ → ℕ → Station → Stepped
-added t k amount s = did (s .value + amount) noReport (putStation t k (putStock s (s .value + amount) (s .intake + amount)))
+abbrev pub addStep : Table → ℕ → ℕ → Station → Stepped
+addStep t k amount s = did (s .value + amount) noReport (putStation t k (putStock s (s .value + amount) (s .intake + amount)))
 
 -- Draw takes the amount asked, all or none of it. Result: the amount.
-abbrev pub drawn : Table → ℕ → ℕ → Station → Stepped
-drawn t k amount s = did amount noReport (putStation t k (putStock s (s .value - amount) (s .intake)))
+abbrev pub drawStep : Table → ℕ → ℕ → Station → Stepped
+drawStep t k amount s = did amount noReport (putStation t k (putStock s (s .value - amount) (s .intake)))
 
 -- Send writes the sender's message into the lowest-numbered empty place. The sender does not
 -- change. Result: the place.
-abbrev pub sent : Table → ℕ → Message → Stepped
-sent t p m = did p noReport (putPlace t p (One m))
+abbrev pub sendStep : Table → ℕ → Message → Stepped
+sendStep t p m = did p noReport (putPlace t p (One m))
 
 -- Deliver lets the receiver take the message at a place by the five rules. The message stays.
 -- Result: the amount filled, or 0.
-abbrev pub taken : Table → Message → Station → Stepped
-taken t m s = let r = takeOf (sideFor s (m .from)) m in did (r .result) (r .report) (putStation t (m .to) (putSide s (m .from) (r .side)))
+abbrev pub takeStep : Table → Message → Station → Stepped
+takeStep t m s = let r = fiveRules (sideFor s (m .from)) m in did (r .result) (r .report) (putStation t (m .to) (putSide s (m .from) (r .side)))
 
 -- an empty place is refused, so the first line is not met with
-abbrev pub delivered : Table → Waiting → Stepped
-delivered t Empty = did 0 noReport t
-delivered t (One m) = taken t m (stationAt t (m .to))
+abbrev pub deliverStep : Table → Waiting → Stepped
+deliverStep t Empty = did 0 noReport t
+deliverStep t (One m) = takeStep t m (stationAt t (m .to))
 
 -- Lose empties a place. Result 0.
-abbrev pub lost : Table → ℕ → Stepped
-lost t p = did 0 noReport (putPlace t p Empty)
+abbrev pub loseStep : Table → ℕ → Stepped
+loseStep t p = did 0 noReport (putPlace t p Empty)
 
 -- a fill by rule 1 would bring the receiver's value above its limit
 abbrev pub overfills : Table → Waiting → Bool
@@ -87,11 +87,11 @@ stepRefusals t (Deliver p) =
 stepRefusals t (Lose p) = unsound t ∷ when (not (ltb p mostPlaces)) noSuchPlace ∷ when (isEmpty (waitingAt t p)) emptyPlace ∷ []
 
 abbrev pub stepDone : Table → Step → Stepped
-stepDone t (Add k amount) = added t k amount (stationAt t k)
-stepDone t (Draw k amount) = drawn t k amount (stationAt t k)
-stepDone t (Send from to) = sent t (lowestEmpty (t .pool)) (messageFor (stationAt t from) to)
-stepDone t (Deliver p) = delivered t (waitingAt t p)
-stepDone t (Lose p) = lost t p
+stepDone t (Add k amount) = addStep t k amount (stationAt t k)
+stepDone t (Draw k amount) = drawStep t k amount (stationAt t k)
+stepDone t (Send from to) = sendStep t (lowestEmpty (t .pool)) (messageFor (stationAt t from) to)
+stepDone t (Deliver p) = deliverStep t (waitingAt t p)
+stepDone t (Lose p) = loseStep t p
 
 unfoldable pub stepOf : Table → Step → Stepped
 stepOf t step = answeredStep (answerOf (stepRefusals t step)) t (stepDone t step)

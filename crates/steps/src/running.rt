@@ -8,7 +8,7 @@ ghost use lib.Seq.{sets};
 ghost use Rattle.ground.specs.Limits.{mostStations};
 ghost use Rattle.rules.specs.Report.{rulesOf};
 ghost use Rattle.station.specs.Side.{putSide};
-ghost use Rattle.steps.specs.Running.{askedIn, ranBy, toldBy, Runs};
+ghost use Rattle.steps.specs.Running.{askedIn, ranBy, allTold, Runs};
 ghost use Rattle.table.specs.Sound.{tableSound};
 use crate::asked::asked_by;
 use crate::cells::cells_for;
@@ -75,7 +75,7 @@ fn put_told(told: &mut [u64], at: usize, answer: u8, result: u64, report: Report
 // are taken and what the stations hold is kept beside it, to be looked at without a copy.
 fn run_sound(t: Table, codes: &[u64], told: &mut [u64], steps: usize) -> Ran
     requires { ⌜ (tableSound t ≡ true) × (3 * steps ≤ length (now codes)) × (5 * steps ≤ length (now told)) ⌝ }
-    ensures { λ r. ⌜ (r ≡ ranBy t steps (now (codes .entry))) × (now (told .exit) ≡ sets (now (told .entry)) 0 (toldBy t (askedIn steps (now (codes .entry))))) ⌝ }
+    ensures { λ r. ⌜ (r ≡ ranBy t steps (now (codes .entry))) × (now (told .exit) ≡ sets (now (told .entry)) 0 (allTold t (askedIn steps (now (codes .entry))))) ⌝ }
 {
     let mut table = t;
     let stations = table.stations;

@@ -12,7 +12,7 @@ use borrow.Author.Tests.{leb-true, ltb-true, le-leb, lt-leb, lt-ltb, eq-eqb, ltb
 use Rattle.station.specs.declared.station.Station.{Station}
 use Rattle.ground.specs.Limits.{mostStations}
 use Rattle.station.specs.Sound.{countSound, stationSound}
-use Rattle.station.specs.Steps.{blank, freshAnswer, freshOf as freshStation}
+use Rattle.station.specs.Steps.{blank, freshAnswer, freshOf}
 use Rattle.ground.proofs.Tests.{both-hold, below-or-last}
 use Rattle.station.proofs.Keeps.{fresh-sound}
 use Rattle.pool.specs.declared.places.Place.{Place}
@@ -20,7 +20,7 @@ use Rattle.pool.specs.declared.places.Waiting.the-variants.{Empty}
 use Rattle.pool.specs.Pool.{mostPlaces}
 use Rattle.table.specs.Table.{stationAt, waitingAt}
 use Rattle.table.specs.Sound.{seatSound, placeSound, tableSound}
-use Rattle.table.specs.Fresh.{seatsTo, blankTable, freshOf}
+use Rattle.table.specs.Fresh.{seatsTo, blankTable, freshTableOf}
 use Rattle.table.proofs.Tables.{table-whole}
 
 pub length-seats : (count k : ℕ) → length (seatsTo count k) ≡ mostStations
@@ -43,7 +43,7 @@ seat-at count (suc n) k d h most =
     next-seat count n k d (omega arith) (λ less. seat-at count n k d less (omega arith)) (ℕ-discrete k n) h
 
 blank-sound : (number count : ℕ) → countSound count ≡ true → number < count → stationSound (blank number count) ≡ true
-unfolding freshStation
+unfolding freshOf
 blank-sound number count e h =
     let a : freshAnswer number count ≡ 0 = rw (e, lt-ltb number count h) in
     rw a at (fresh-sound number count a)
@@ -61,8 +61,8 @@ module _ (count : ℕ) (e : countSound count ≡ true) where
   places : (p : ℕ) → p < mostPlaces → placeSound (waitingAt (blankTable count) p) count ≡ true
   places p h = rw (getD-replicate {A = Place} mostPlaces p (record { waiting = Empty }) (record { waiting = Empty }) h)
 
-  pub fresh-table-sound : tableSound (freshOf count .table) ≡ true
-  unfolding freshOf
+  pub fresh-table-sound : tableSound (freshTableOf count .table) ≡ true
+  unfolding freshTableOf
   fresh-table-sound =
       rw e
       (table-whole (blankTable count)

@@ -10,7 +10,7 @@ use Rattle.rules.specs.declared.held.HeldToken.the-variants.{NoToken, OneToken}
 use Rattle.ground.specs.Limits.{mostValue}
 use Rattle.station.specs.Held.{tokenFor}
 use Rattle.rules.specs.Rules.{agree}
-use Rattle.rules.specs.Taking.{tokenFits}
+use Rattle.rules.specs.Taking.{TokenInRange}
 use Rattle.station.proofs.Parts.{SoundStation, station-parts, token-fits}
 use Rattle.table.specs.declared.table.Table.{Table}
 use Rattle.table.specs.Table.{stationAt}
@@ -28,7 +28,7 @@ all-or-none : (b : Bool) (q : ℕ) → q ≤ mostValue → cond b q 0 ≤ mostVa
 all-or-none true q h = h
 all-or-none false q h = omega arith
 
-travels-small : (g : HeldToken) (h : HeldSlot) → tokenFits g → travels g h ≤ mostValue
+travels-small : (g : HeldToken) (h : HeldSlot) → TokenInRange g → travels g h ≤ mostValue
 travels-small NoToken h f = omega arith
 travels-small (OneToken t) NoSlot f = omega arith
 travels-small (OneToken t) (OneSlot l) f = all-or-none (agree t l) (t .quantity) f

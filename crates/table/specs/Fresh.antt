@@ -25,9 +25,9 @@ abbrev pub blankTable : ℕ → Table
 blankTable count = record { count = count; stations = seatsTo count count; pool = replicate mostPlaces (record { waiting = Empty }) }
 
 -- 1 where the count is not 2 to 16; making has result 0
-abbrev pub freshRefusals : ℕ → List Refusal
-freshRefusals count = when (not (countSound count)) notSound ∷ []
+abbrev pub freshTableRefusals : ℕ → List Refusal
+freshTableRefusals count = when (not (countSound count)) notSound ∷ []
 
 -- a refused making hands back every number 0 and nothing held
-unfoldable pub freshOf : ℕ → Stepped
-freshOf count = answeredStep (answerOf (freshRefusals count)) (blankTable 0) (did 0 noReport (blankTable count))
+unfoldable pub freshTableOf : ℕ → Stepped
+freshTableOf count = answeredStep (answerOf (freshTableRefusals count)) (blankTable 0) (did 0 noReport (blankTable count))

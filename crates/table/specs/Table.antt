@@ -8,11 +8,11 @@ use Rattle.pool.specs.Pool.{placeIn}
 use Rattle.table.specs.declared.table.Table.{Table}
 
 -- what is taken to stand past the end of the stations
-abbrev pub noStation : Station
-noStation = record { number = 0; count = 0; value = 0; intake = 0; source = record { 0 = 0 }; destination = record { 0 = 0 }; slots = []; tokens = [] }
+abbrev pub stationPastEnd : Station
+stationPastEnd = record { number = 0; count = 0; value = 0; intake = 0; source = record { 0 = 0 }; destination = record { 0 = 0 }; slots = []; tokens = [] }
 
 abbrev pub stationIn : List Station → ℕ → Station
-stationIn stations k = getD stations k noStation
+stationIn stations k = getD stations k stationPastEnd
 
 abbrev pub stationAt : Table → ℕ → Station
 stationAt t k = stationIn (t .stations) k

@@ -2,7 +2,7 @@
 ghost use mathlib.Core.Path.{_≡_};
 ghost use Prim.Native.Nat.{_≤_};
 ghost use Rattle.ground.specs.Limits.{mostStations};
-ghost use Rattle.table.specs.Fresh.{blankTable, freshOf, seatsTo};
+ghost use Rattle.table.specs.Fresh.{blankTable, freshTableOf, seatsTo};
 use crate::stepped::Stepped;
 use crate::table::Table;
 use ground::answers;
@@ -52,7 +52,7 @@ fn blank_table(count: usize) -> Table
 
 // A table with nothing in it: refused by 1.
 pub fn fresh_table(count: u64) -> Stepped
-    ensures { λ r. ⌜ r ≡ freshOf count ⌝ }
+    ensures { λ r. ⌜ r ≡ freshTableOf count ⌝ }
 {
     if !count_is_sound(count) {
         return Stepped {

@@ -6,7 +6,7 @@ use borrow.Author.Needs.{needs}
 use denote.Ref.{now}
 use lib.ListN.{length}
 use Rattle.table.specs.declared.stepped.Stepped.{Stepped}
-use Rattle.table.specs.Fresh.{freshOf}
+use Rattle.table.specs.Fresh.{freshTableOf}
 use Rattle.steps.specs.Running.{askedIn, askedStep}
 use Rattle.steps.proofs.AskedFrom.{askedFrom, asked-start}
 use Rattle.measure.specs.Steps.{lastResult}
@@ -15,7 +15,7 @@ use Rattle.measure.proofs.qm_last_result.Statement.{statement}
 use Rattle.measure.proofs.qm_last_result.Tie as tie
 
 abbrev Inv-loop : tie.InvT-loop
-Inv-loop count codes t₀ last₀ whole n₀ t last n = (n ≤ whole) × (3 * whole ≤ length codes) × (lastResult t last (askedFrom codes whole n) ≡ lastResult (freshOf count .table) 0 (askedIn whole codes))
+Inv-loop count codes t₀ last₀ whole n₀ t last n = (n ≤ whole) × (3 * whole ≤ length codes) × (lastResult t last (askedFrom codes whole n) ≡ lastResult (freshTableOf count .table) 0 (askedIn whole codes))
 
 abbrev μ-loop : tie.MeasureT-loop
 μ-loop count codes t₀ last₀ whole n₀ t last n = whole - n

@@ -1,5 +1,5 @@
 use mathlib.Core.Path.{sym, _∙_}
-use Rattle.rules.specs.Taking.{takeAnswer, takeOf, takenOf, refusedTaking}
+use Rattle.rules.specs.Taking.{takeAnswer, fiveRules, takenOf, refusedTaking}
 use Rattle.ground.proofs.Choices.{when-done, when-refused}
 use Rattle.rules.proofs.Refusing.{takes}
 use borrow.Author.Needs.{needs}
@@ -18,7 +18,7 @@ returns c =
     let a = c .before .before .before .args in
     let n = c .before .before .take-answer in
     rw (c .no-report .ensures, n .ensures)
-    (when-refused (takeAnswer (a .x) (a .m)) (takeOf (a .x) (a .m)) (refusedTaking (takeAnswer (a .x) (a .m)) (a .x)) (λ e. c .before .if1 .taken (n .ensures ∙ e)))
+    (when-refused (takeAnswer (a .x) (a .m)) (fiveRules (a .x) (a .m)) (refusedTaking (takeAnswer (a .x) (a .m)) (a .x)) (λ e. c .before .if1 .taken (n .ensures ∙ e)))
 
 five-rules-requires : tie.Need-five-rules-requires
 five-rules-requires c κs = let a = c .before .before .args in takes (a .x) (a .m) (sym (c .before .take-answer .ensures) ∙ c .if1 .left)
@@ -27,7 +27,7 @@ returns-2 : tie.Need-returns-2
 unfolding takenOf
 returns-2 c =
     let a = c .before .before .before .args in
-    c .five-rules .ensures ∙ when-done (takeOf (a .x) (a .m)) _ (sym (c .before .before .take-answer .ensures) ∙ c .before .if1 .left)
+    c .five-rules .ensures ∙ when-done (fiveRules (a .x) (a .m)) _ (sym (c .before .before .take-answer .ensures) ∙ c .before .if1 .left)
 
 pub take-spec : {M : Type 1} → statement M
 take-spec =

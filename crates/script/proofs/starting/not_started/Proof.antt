@@ -1,4 +1,4 @@
-use Rattle.table.specs.Fresh.{freshOf}
+use Rattle.table.specs.Fresh.{freshTableOf}
 use borrow.Author.Needs.{needs}
 use Rattle.script.proofs.starting.not_started.Statement.{statement}
 use Rattle.script.proofs.starting.not_started.Tie as tie
@@ -7,7 +7,7 @@ fresh-table-requires : tie.Need-fresh-table-requires
 fresh-table-requires c κs = search needs
 
 returns : tie.Need-returns
-unfolding freshOf
+unfolding freshTableOf
 returns c = rw (c .before .fresh-table .ensures)
 
 pub not-started-spec : {M : Type 1} → statement M

@@ -5,13 +5,13 @@ use mathlib.Core.Path.{_≡_, refl, ap, _∙_}
 use denote.Ref.{now}
 use lib.ListN.{length}
 use lib.Seq.{sets, length-sets}
-use Rattle.script.specs.Telling.{saidIn}
+use Rattle.script.specs.Telling.{linesOfTold}
 use Rattle.script.proofs.Tells.{all-said, said-none, said-short, said-turn}
 use Rattle.script.proofs.telling.put_told.Statement.{statement}
 use Rattle.script.proofs.telling.put_told.Tie as tie
 
 abbrev Inv-loop : tie.InvT-loop
-Inv-loop told steps first out₀ size₀ k₀ out size k = (k ≤ steps) × (length out ≡ length out₀) × (size ≡ 0 + length (saidIn k first told)) × (out ≡ sets out₀ 0 (saidIn k first told))
+Inv-loop told steps first out₀ size₀ k₀ out size k = (k ≤ steps) × (length out ≡ length out₀) × (size ≡ 0 + length (linesOfTold k first told)) × (out ≡ sets out₀ 0 (linesOfTold k first told))
 
 abbrev μ-loop : tie.MeasureT-loop
 μ-loop told steps first out₀ size₀ k₀ out size k = steps - k
@@ -57,7 +57,7 @@ loop-again c =
     let a = c .before .before .before .before .before .before .before .before .before .before .args in
     let at = c .before .before .before .before .before .before .before .loop in
     let turn = said-turn (now (a .out)) (now (a .told)) (a .first) (at .k) _ _ _ _ (at .inv .2, at .inv .3) (c .before .before .put-says .ensures) in
-    (omega arith, ap length (turn .1) ∙ length-sets (now (a .out)) 0 (saidIn (at .k + 1) (a .first) (now (a .told))), turn .0, turn .1)
+    (omega arith, ap length (turn .1) ∙ length-sets (now (a .out)) 0 (linesOfTold (at .k + 1) (a .first) (now (a .told))), turn .0, turn .1)
 
 same-length : tie.Need-same-length Inv-loop μ-loop
 same-length c = c .before .loop .inv .1

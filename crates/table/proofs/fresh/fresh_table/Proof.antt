@@ -2,7 +2,7 @@ use mathlib.Core.Path.{sym, _∙_}
 use lib.Dec.{leb}
 use borrow.Author.Tests.{not-true, not-false, leb-true}
 use Rattle.ground.proofs.Tests.{both-hold}
-use Rattle.table.specs.Fresh.{freshOf}
+use Rattle.table.specs.Fresh.{freshTableOf}
 use borrow.Author.Needs.{needs}
 use Rattle.table.proofs.fresh.fresh_table.Statement.{statement}
 use Rattle.table.proofs.fresh.fresh_table.Tie as tie
@@ -17,7 +17,7 @@ blank-table-requires : tie.Need-blank-table-requires
 blank-table-requires c κs = search needs
 
 returns : tie.Need-returns
-unfolding freshOf
+unfolding freshTableOf
 returns c = rw (sym (c .before .before .before .count-is-sound .ensures) ∙ not-true _ (c .before .before .if1 .taken), c .before .no-report .ensures, c .blank-table .ensures)
 
 no-report-requires-2 : tie.Need-no-report-requires-2
@@ -29,7 +29,7 @@ blank-table-requires-2 c κs =
     leb-true _ _ (both-hold (leb 2 n) _ (sym (c .before .before .count-is-sound .ensures) ∙ not-false _ (c .before .if1 .left)) .1)
 
 returns-2 : tie.Need-returns-2
-unfolding freshOf
+unfolding freshTableOf
 returns-2 c = rw (sym (c .before .before .before .count-is-sound .ensures) ∙ not-false _ (c .before .before .if1 .left), c .before .no-report2 .ensures, c .blank-table2 .ensures)
 
 pub fresh-table-spec : {M : Type 1} → statement M

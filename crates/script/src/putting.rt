@@ -6,7 +6,7 @@ ghost use Prim.Native.Nat.{_≤_};
 ghost use lib.ListN.{length};
 ghost use lib.Seq.{sets};
 ghost use Rattle.script.specs.Closing.{closingRoom};
-ghost use Rattle.script.specs.Filling.{atOnce, closed, filledBy, Fills, runSound, stepped, still};
+ghost use Rattle.script.specs.Putting.{atOnce, closingPiece, pieceTold, PutsLines, runSound, stepsPiece, emptyPiece};
 use crate::closing::put_closing;
 use crate::limits::CLOSING_ROOM;
 use crate::limits::MOST_AT_ONCE;
@@ -19,7 +19,7 @@ use ground::answers;
 use table::sound::table_is_sound;
 
 // The numbered answer, how many bytes were put, and the run past what was put.
-pub struct Filled {
+pub struct PutLines {
     pub answer: u8,
     pub result: u64,
     pub run: Run,
@@ -34,10 +34,10 @@ fn run_is_sound(run: Run) -> bool
 }
 
 // Nothing is put, and the run stays as it is.
-fn stay(answer: u8, run: Run) -> Filled
-    ensures { λ r. ⌜ r ≡ filledBy (still answer run) ⌝ }
+fn stay(answer: u8, run: Run) -> PutLines
+    ensures { λ r. ⌜ r ≡ pieceTold (emptyPiece answer run) ⌝ }
 {
-    Filled {
+    PutLines {
         answer,
         result: 0,
         run,
@@ -70,9 +70,9 @@ fn told_buffer() -> [u64; 5120]
 }
 
 // The lines of the next steps: lines to numbers, numbers to what was told, and that to lines.
-fn put_steps(script: &[u8], run: Run, out: &mut [u8]) -> Filled
+fn put_steps(script: &[u8], run: Run, out: &mut [u8]) -> PutLines
     requires { ⌜ runSound run ≡ true ⌝ }
-    ensures { λ r. ⌜ (r ≡ filledBy (stepped (now (script .entry)) run (atOnce (length (now (out .entry)))))) × (now (out .exit) ≡ sets (now (out .entry)) 0 (stepped (now (script .entry)) run (atOnce (length (now (out .entry)))) .bytes)) ⌝ }
+    ensures { λ r. ⌜ (r ≡ pieceTold (stepsPiece (now (script .entry)) run (atOnce (length (now (out .entry)))))) × (now (out .exit) ≡ sets (now (out .entry)) 0 (stepsPiece (now (script .entry)) run (atOnce (length (now (out .entry)))) .bytes)) ⌝ }
 {
     let mut codes = codes_buffer();
     let mut told = told_buffer();
@@ -89,7 +89,7 @@ fn put_steps(script: &[u8], run: Run, out: &mut [u8]) -> Filled
         number: run.number + lines as u64,
         finished: false,
     };
-    Filled {
+    PutLines {
         answer: answers::DONE,
         result: size as u64,
         run: next,
@@ -97,9 +97,9 @@ fn put_steps(script: &[u8], run: Run, out: &mut [u8]) -> Filled
 }
 
 // The closing lines.
-fn put_end(run: Run, out: &mut [u8]) -> Filled
+fn put_end(run: Run, out: &mut [u8]) -> PutLines
     requires { ⌜ (runSound run ≡ true) × (closingRoom ≤ length (now out)) ⌝ }
-    ensures { λ r. ⌜ (r ≡ filledBy (closed run)) × (now (out .exit) ≡ sets (now (out .entry)) 0 (closed run .bytes)) ⌝ }
+    ensures { λ r. ⌜ (r ≡ pieceTold (closingPiece run)) × (now (out .exit) ≡ sets (now (out .entry)) 0 (closingPiece run .bytes)) ⌝ }
 {
     let table = run.table;
     let size = put_closing(out, table);
@@ -109,7 +109,7 @@ fn put_end(run: Run, out: &mut [u8]) -> Filled
         number: run.number,
         finished: true,
     };
-    Filled {
+    PutLines {
         answer: answers::DONE,
         result: size as u64,
         run: next,
@@ -117,8 +117,8 @@ fn put_end(run: Run, out: &mut [u8]) -> Filled
 }
 
 // The next lines of a run that is not finished: refused by 1, 14.
-pub fn fill(script: &[u8], run: Run, out: &mut [u8]) -> Filled
-    ensures { λ r. ⌜ Fills (now (script .entry)) run (now (out .entry)) r (now (out .exit)) ⌝ }
+pub fn put_lines(script: &[u8], run: Run, out: &mut [u8]) -> PutLines
+    ensures { λ r. ⌜ PutsLines (now (script .entry)) run (now (out .entry)) r (now (out .exit)) ⌝ }
 {
     if !run_is_sound(run) {
         return stay(answers::NOT_SOUND, run);

@@ -1,6 +1,6 @@
 use borrow.Author.Needs.{needs}
-use Rattle.script.proofs.filling.run_is_sound.Statement.{statement}
-use Rattle.script.proofs.filling.run_is_sound.Tie as tie
+use Rattle.script.proofs.putting.run_is_sound.Statement.{statement}
+use Rattle.script.proofs.putting.run_is_sound.Tie as tie
 
 table-is-sound-requires : tie.Need-table-is-sound-requires
 table-is-sound-requires c κs = search needs

@@ -5,8 +5,8 @@ use denote.Ref.{now}
 use lib.ListN.{length}
 use lib.Seq.{length-sets, length-take-le}
 use Rattle.script.proofs.Turns.{few-lines, table-sound, told-length, turn-put}
-use Rattle.script.proofs.filling.put_steps.Statement.{statement}
-use Rattle.script.proofs.filling.put_steps.Tie as tie
+use Rattle.script.proofs.putting.put_steps.Statement.{statement}
+use Rattle.script.proofs.putting.put_steps.Tie as tie
 
 codes-buffer-requires : tie.Need-codes-buffer-requires
 codes-buffer-requires c κs = search needs

@@ -1,4 +1,5 @@
--- What a turn of filling a lent buffer puts, and the run that it leaves.
+-- What is put into a lent buffer at a time, a piece of a script's output, and the run that it
+-- leaves.
 use Prim.Native.Nat.{ℕ, _+_, _/_, min}
 use mathlib.Core.Path.{_≡_}
 use mathlib.Core.Bool.{Bool, true, false, cond, not, _&&_}
@@ -11,11 +12,11 @@ use Rattle.ground.specs.Refusals.{Refusal, when}
 use Rattle.table.specs.Sound.{tableSound}
 use Rattle.steps.specs.Running.{leftBy}
 use Rattle.script.specs.declared.starting.Run.{Run}
-use Rattle.script.specs.declared.filling.Filled.{Filled}
+use Rattle.script.specs.declared.putting.PutLines.{PutLines}
 use Rattle.script.specs.Script.{mostBytes, closing}
 use Rattle.script.specs.Closing.{closingRoom}
 use Rattle.script.specs.Reading.{linesFrom, pastLines}
-use Rattle.script.specs.Telling.{saidFor}
+use Rattle.script.specs.Telling.{linesOfSteps}
 use Rattle.script.specs.Starting.{stepRoom}
 
 -- a run is sound if its table is, and its number is not above the longest script's bytes
@@ -30,44 +31,44 @@ abbrev pub atOnce : ℕ → ℕ
 atOnce room = min mostAtOnce (room / stepRoom)
 
 -- the answer, the bytes put, and the run past them
-pub record Turn : Type 0 where
+pub record OutputPiece : Type 0 where
   pub answer : ℕ
   pub bytes : List ℕ
   pub run : Run
 
 -- nothing is put, and the run stays as it is
-abbrev pub still : ℕ → Run → Turn
-still answer run = record { answer = answer; bytes = []; run = run }
+abbrev pub emptyPiece : ℕ → Run → OutputPiece
+emptyPiece answer run = record { answer = answer; bytes = []; run = run }
 
 -- the lines of the next steps, at most so many
-abbrev pub stepped : List ℕ → Run → ℕ → Turn
-stepped script run most =
+abbrev pub stepsPiece : List ℕ → Run → ℕ → OutputPiece
+stepsPiece script run most =
     let lines = linesFrom most script (run .at) in
     let next : Run = record { table = leftBy (run .table) lines; at = pastLines most script (run .at); number = run .number + length lines; finished = false } in
-    record { answer = done; bytes = saidFor (run .number) (run .table) lines; run = next }
+    record { answer = done; bytes = linesOfSteps (run .number) (run .table) lines; run = next }
 
 -- the closing lines, and the run is finished
-abbrev pub closed : Run → Turn
-closed run =
+abbrev pub closingPiece : Run → OutputPiece
+closingPiece run =
     let next : Run = record { table = run .table; at = run .at; number = run .number; finished = true } in
     record { answer = done; bytes = closing (run .table); run = next }
 
-abbrev pub fillRefusals : Run → ℕ → List Refusal
-fillRefusals run room = when (not (runSound run)) notSound ∷ when (ltb room closingRoom) shortBuffer ∷ []
+abbrev pub putLinesRefusals : Run → ℕ → List Refusal
+putLinesRefusals run room = when (not (runSound run)) notSound ∷ when (ltb room closingRoom) shortBuffer ∷ []
 
 -- refused by 1, 14; a finished run puts nothing; one with lines left puts the lines of steps, and
 -- one at its end the closing lines
-unfoldable pub turnOf : List ℕ → Run → ℕ → Turn
-turnOf script run room =
-    cond (not (runSound run)) (still notSound run)
-    (cond (ltb room closingRoom) (still shortBuffer run)
-    (cond (run .finished) (still done run)
-    (cond (ltb (run .at) (length script)) (stepped script run (atOnce room)) (closed run))))
+unfoldable pub pieceOf : List ℕ → Run → ℕ → OutputPiece
+pieceOf script run room =
+    cond (not (runSound run)) (emptyPiece notSound run)
+    (cond (ltb room closingRoom) (emptyPiece shortBuffer run)
+    (cond (run .finished) (emptyPiece done run)
+    (cond (ltb (run .at) (length script)) (stepsPiece script run (atOnce room)) (closingPiece run))))
 
-abbrev pub filledBy : Turn → Filled
-filledBy turn = record { answer = turn .answer; result = length (turn .bytes); run = turn .run }
+abbrev pub pieceTold : OutputPiece → PutLines
+pieceTold piece = record { answer = piece .answer; result = length (piece .bytes); run = piece .run }
 
 -- the first bytes of the buffer are those put, and every byte behind them is as it was
-pub record Fills (script : List ℕ) (run : Run) (out : List ℕ) (r : Filled) (later : List ℕ) : Type 0 where
-  pub filled : r ≡ filledBy (turnOf script run (length out))
-  pub lent : later ≡ sets out 0 (turnOf script run (length out) .bytes)
+pub record PutsLines (script : List ℕ) (run : Run) (out : List ℕ) (r : PutLines) (later : List ℕ) : Type 0 where
+  pub put : r ≡ pieceTold (pieceOf script run (length out))
+  pub lent : later ≡ sets out 0 (pieceOf script run (length out) .bytes)

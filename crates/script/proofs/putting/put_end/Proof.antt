@@ -1,8 +1,8 @@
 use borrow.Author.Needs.{needs}
 use native.Mathlib.Omega.{arith}
 use Rattle.script.proofs.Turns.{table-sound}
-use Rattle.script.proofs.filling.put_end.Statement.{statement}
-use Rattle.script.proofs.filling.put_end.Tie as tie
+use Rattle.script.proofs.putting.put_end.Statement.{statement}
+use Rattle.script.proofs.putting.put_end.Tie as tie
 
 put-closing-requires : tie.Need-put-closing-requires
 put-closing-requires c κs = (table-sound (c .before .before .before .args .run) (c .before .before .before .pre .0) .0, omega (arith, c .before .before .before .pre .1))
