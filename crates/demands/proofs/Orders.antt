@@ -43,7 +43,6 @@ use Rattle.table.specs.Table.{stationAt, waitingAt}
 use Rattle.table.specs.Way.{sumRefusals}
 use Rattle.steps.proofs.Ran.{step-answers}
 use Rattle.steps.proofs.Same.{deliver-same}
-use Rattle.script.specs.declared.starting.Put.{Put}
 use Rattle.script.specs.declared.starting.Run.{Run}
 use Rattle.script.specs.Putting.{putLinesRefusals}
 use Rattle.script.specs.Starting.{putAnswerRefusals, startRefusals}
@@ -152,6 +151,6 @@ answers =
           let rs = writeRefusals (messageOf message) (length out) in
           given-answer (writeBy message out) (fits-or (messageFits message) _ noRecord out (by-list rs refl));
       start = λ script. by-list (startRefusals script) (start-tells script);
-      put-answer = λ answer out r out′ p. by-list (putAnswerRefusals out) (ap (λ (r : Put). r .answer) (p .put));
+      put-answer = λ answer out r out′ p. by-list (putAnswerRefusals out) (ap (λ (r : Told). r .answer) (p .put));
       put-lines = λ script run out r out′ p. rw (p .put) (by-list (putLinesRefusals run (length out)) (put-lines-tells script run (length out)));
     }

@@ -59,7 +59,6 @@ use Rattle.steps.specs.Running.{Runs}
 use Rattle.steps.specs.Steps.{stepOf}
 use Rattle.table.specs.Way.{wayAsked, stationsAsked}
 use Rattle.script.specs.declared.putting.PutLines.{PutLines}
-use Rattle.script.specs.declared.starting.Put.{Put}
 use Rattle.script.specs.declared.starting.Run.{Run}
 use Rattle.script.specs.declared.starting.Started.{Started}
 use Rattle.script.specs.Putting.{PutsLines}
@@ -134,7 +133,7 @@ RefusedTold r = r .answer ≢ done → r ≡ plainTold (r .answer) 0
 abbrev pub RefusedStart : Started → Type 0
 RefusedStart r = Refused (r .answer) (r .result) noRun (r .run)
 
-abbrev pub RefusedPut : List ℕ → Put → List ℕ → Type 0
+abbrev pub RefusedPut : List ℕ → Told → List ℕ → Type 0
 RefusedPut before r after = Refused (r .answer) (r .result) before after
 
 -- a refused putting of lines: result 0, the run is this one, and so is the buffer
@@ -213,6 +212,6 @@ pub record Demand1 : Type 0 where
   -- 13, 12, 1: a refused script hands back a run that is finished, with no table and every number 0
   pub script·start : (script : List ℕ) → RefusedStart (startedOf script)
   -- 14: the buffer is as it was
-  pub script·put-answer : (answer : ℕ) (out : List ℕ) (r : Put) (out′ : List ℕ) → PutsAnswer answer out r out′ → RefusedPut out r out′
+  pub script·put-answer : (answer : ℕ) (out : List ℕ) (r : Told) (out′ : List ℕ) → PutsAnswer answer out r out′ → RefusedPut out r out′
   -- 1, 14: the run is handed back as it was, and so is the buffer
   pub script·put-lines : (script : List ℕ) (run : Run) (out : List ℕ) (r : PutLines) (out′ : List ℕ) → PutsLines script run out r out′ → RefusedPutLines run out r out′

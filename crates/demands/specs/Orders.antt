@@ -27,7 +27,6 @@ use Rattle.steps.specs.Running.{Runs}
 use Rattle.steps.specs.Steps.{stepRefusals, stepOf}
 use Rattle.table.specs.Way.{sumRefusals, wayAsked, stationsAsked}
 use Rattle.script.specs.declared.putting.PutLines.{PutLines}
-use Rattle.script.specs.declared.starting.Put.{Put}
 use Rattle.script.specs.declared.starting.Run.{Run}
 use Rattle.script.specs.Putting.{PutsLines, putLinesRefusals}
 use Rattle.script.specs.Starting.{PutsAnswer, putAnswerRefusals, startRefusals, startedOf}
@@ -122,5 +121,5 @@ pub record Answers : Type 0 where
   pub qb-record-read : (bytes message : List ℕ) (r : ToldNumbers) (message′ : List ℕ) → Reads bytes message r message′ → OneOf (r .answer) (9 ∷ [])
   pub qb-record-write : (message out : List ℕ) (r : ToldNumbers) (out′ : List ℕ) → WritesNumbers message out r out′ → OneOf (r .answer) (9 ∷ 14 ∷ [])
   pub start : (script : List ℕ) → OneOf (startedOf script .answer) (13 ∷ 12 ∷ 1 ∷ [])
-  pub put-answer : (answer : ℕ) (out : List ℕ) (r : Put) (out′ : List ℕ) → PutsAnswer answer out r out′ → OneOf (r .answer) (14 ∷ [])
+  pub put-answer : (answer : ℕ) (out : List ℕ) (r : Told) (out′ : List ℕ) → PutsAnswer answer out r out′ → OneOf (r .answer) (14 ∷ [])
   pub put-lines : (script : List ℕ) (run : Run) (out : List ℕ) (r : PutLines) (out′ : List ℕ) → PutsLines script run out r out′ → OneOf (r .answer) (1 ∷ 14 ∷ [])

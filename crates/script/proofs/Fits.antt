@@ -15,7 +15,7 @@ use Rattle.table.specs.Sound.{tableSound}
 use Rattle.table.specs.Way.{atStations, onTheWay}
 use Rattle.table.proofs.Tables.{table-parts}
 use Rattle.script.specs.declared.putting.PutLines.{PutLines}
-use Rattle.script.specs.declared.starting.Put.{Put}
+use Rattle.ground.specs.declared.told.Told.{Told}
 use Rattle.script.specs.declared.starting.Run.{Run}
 use Rattle.script.specs.Decimal.{totalLine, wayLine}
 use Rattle.script.specs.Script.{closing, stationLines}
@@ -78,7 +78,7 @@ put-lines-first script run out f =
     let turn = pieceOf script run (length out) in
     rw (f .put, f .lent) (put-first out (turn .bytes) (length (turn .bytes)) refl (turn-fits script run (length out)))
 
-pub answer-first : (answer : ℕ) (out : List ℕ) {r : Put} {later : List ℕ} → stepRoom ≤ length out → PutsAnswer answer out r later → take (r .result) later ≡ answerLine answer
+pub answer-first : (answer : ℕ) (out : List ℕ) {r : Told} {later : List ℕ} → stepRoom ≤ length out → PutsAnswer answer out r later → take (r .result) later ≡ answerLine answer
 answer-first answer out h p =
     let line = answerLine answer in
     rw (p .put, p .lent, le-ltb (length out) stepRoom h) (put-first out line (length line) refl (omega (arith, length-says 0 answer 0)))

@@ -7,7 +7,7 @@ use mathlib.Core.List.{List, _++_}
 use lib.ListN.{length, take}
 use Rattle.ground.proofs.Choices.{when-refused}
 use Rattle.script.specs.declared.putting.PutLines.{PutLines}
-use Rattle.script.specs.declared.starting.Put.{Put}
+use Rattle.ground.specs.declared.told.Told.{Told}
 use Rattle.script.specs.declared.starting.Run.{Run}
 use Rattle.script.specs.Script.{outputOf}
 use Rattle.script.specs.Closing.{closingRoom}
@@ -40,7 +40,7 @@ loops-put {script} {room} (suc turns) {run} (turned {out = out} e l f more) =
 
 module _ (script : List ℕ) where
   -- a script that is refused: the line of its answer
-  pub refused-put : (out : List ℕ) {r : Put} {later : List ℕ} → (startedOf script .answer ≡ 0 → ⊥) → stepRoom ≤ length out → PutsAnswer (startedOf script .answer) out r later → take (r .result) later ≡ outputOf script
+  pub refused-put : (out : List ℕ) {r : Told} {later : List ℕ} → (startedOf script .answer ≡ 0 → ⊥) → stepRoom ≤ length out → PutsAnswer (startedOf script .answer) out r later → take (r .result) later ≡ outputOf script
   refused-put out f room p = answer-first (startedOf script .answer) out room p ∙ sym (start-prints script ∙ sym (when-refused (startedOf script .answer) _ _ f))
 
   -- any other script: all its lines, and the loop ends because its run has finished

@@ -7,7 +7,7 @@ use mathlib.Core.Logic.{⊎-elim}
 use borrow.Author.Tests.{le-ltb, lt-ltb}
 use lib.ListN.{length}
 use Rattle.script.specs.declared.putting.PutLines.{PutLines}
-use Rattle.script.specs.declared.starting.Put.{Put}
+use Rattle.ground.specs.declared.told.Told.{Told}
 use Rattle.script.specs.declared.starting.Run.{Run}
 use Rattle.script.specs.declared.starting.Started.{Started}
 use Rattle.script.specs.Closing.{closingRoom}
@@ -26,11 +26,11 @@ pub start-refused : (script : List ℕ) → (startedOf script .answer ≡ 0 → 
 start-refused script f = start-by script (startedOf script) (begun script) f
 
 -- a line that is refused leaves the buffer as it was
-pub answer-refused : (answer : ℕ) (out : List ℕ) {r : Put} {later : List ℕ} → PutsAnswer answer out r later → (r .answer ≡ 0 → ⊥) → (r .result ≡ 0) × (later ≡ out)
+pub answer-refused : (answer : ℕ) (out : List ℕ) {r : Told} {later : List ℕ} → PutsAnswer answer out r later → (r .answer ≡ 0 → ⊥) → (r .result ≡ 0) × (later ≡ out)
 answer-refused answer out p f =
     ⊎-elim
     (λ (h : length out < stepRoom). rw (p .put, p .lent, lt-ltb (length out) stepRoom h) (refl, refl))
-    (λ (h : stepRoom ≤ length out). absurd (f (ap (λ (r : Put). r .answer) (p .put) ∙ rw (le-ltb (length out) stepRoom h))))
+    (λ (h : stepRoom ≤ length out). absurd (f (ap (λ (r : Told). r .answer) (p .put) ∙ rw (le-ltb (length out) stepRoom h))))
     (below-or-not (length out) stepRoom)
 
 -- a turn that is refused puts nothing and leaves the run as it was

@@ -15,7 +15,7 @@ use Rattle.table.specs.Fresh.{blankTable, freshTableOf}
 use Rattle.script.specs.declared.words.Numeral.{Numeral}
 use Rattle.script.specs.declared.words.Numeral.the-variants.{Unreadable, Reads}
 use Rattle.script.specs.declared.starting.Started.{Started}
-use Rattle.script.specs.declared.starting.Put.{Put}
+use Rattle.ground.specs.declared.told.Told.{Told}
 use Rattle.script.specs.Decimal.{stepLine}
 use Rattle.script.specs.Lines.{stationsOf}
 use Rattle.script.specs.Script.{mostBytes}
@@ -69,9 +69,9 @@ putAnswerRefusals out = when (ltb (length out) stepRoom) shortBuffer ∷ []
 abbrev pub answerBytes : ℕ → List ℕ → List ℕ
 answerBytes answer out = cond (ltb (length out) stepRoom) [] (answerLine answer)
 
-abbrev pub putAnswerOf : ℕ → List ℕ → Put
+abbrev pub putAnswerOf : ℕ → List ℕ → Told
 putAnswerOf answer out = record { answer = answerOf (putAnswerRefusals out); result = length (answerBytes answer out) }
 
-pub record PutsAnswer (answer : ℕ) (out : List ℕ) (r : Put) (later : List ℕ) : Type 0 where
+pub record PutsAnswer (answer : ℕ) (out : List ℕ) (r : Told) (later : List ℕ) : Type 0 where
   pub put : r ≡ putAnswerOf answer out
   pub lent : later ≡ sets out 0 (answerBytes answer out)

@@ -9,6 +9,7 @@ use crate::reading::line_at;
 use crate::reading::past_line;
 use crate::words::Numeral;
 use ground::answers;
+use ground::told::Told;
 use table::fresh::fresh_table;
 use table::table::Table;
 
@@ -25,12 +26,6 @@ pub struct Started {
     pub answer: u8,
     pub result: u64,
     pub run: Run,
-}
-
-// The numbered answer, and how many bytes were put.
-pub struct Put {
-    pub answer: u8,
-    pub result: u64,
 }
 
 // A script that is refused. No station is a bad count, so that the table is the one of such a
@@ -83,17 +78,17 @@ pub fn start(script: &[u8]) -> Started
 
 // The line of a script that is refused: refused itself by 14, where there is no room for the
 // longest line.
-pub fn put_answer(answer: u8, out: &mut [u8]) -> Put
+pub fn put_answer(answer: u8, out: &mut [u8]) -> Told
     ensures { λ r. ⌜ PutsAnswer answer (now (out .entry)) r (now (out .exit)) ⌝ }
 {
     if out.len() < STEP_ROOM {
-        return Put {
+        return Told {
             answer: answers::SHORT_BUFFER,
             result: 0,
         };
     }
     let size = put_says(out, 0, 0, answer as u64, 0);
-    Put {
+    Told {
         answer: answers::DONE,
         result: size as u64,
     }
