@@ -1,4 +1,6 @@
 // The bench program: reads a script, hands it over, and writes what it gets.
+#![tactic(auto)]
+
 ghost use Rattle.std.specs.Prelude.{◌≡◌, length};
 
 use libc::{STDIN_FILENO, STDOUT_FILENO};

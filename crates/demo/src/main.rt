@@ -1,5 +1,7 @@
 // The demonstration: two stations exchange records as a transport would carry them, with a record
 // that comes twice.
+#![tactic(auto)]
+
 use libc::STDOUT_FILENO;
 use station::outcome::Outcome;
 use station::station::Station;

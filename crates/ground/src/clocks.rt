@@ -5,11 +5,11 @@ ghost use Rattle.ground.specs.Clocks.{source_in_range, source_above, source_same
 use crate::limits::LAST_CLOCK;
 
 // Advanced when a station makes a token.
-#[derive(Drop)]
+#[derive(Clone, Copy)]
 pub struct SourceClock(pub u32);
 
 // Advanced when a station opens a slot.
-#[derive(Drop)]
+#[derive(Clone, Copy)]
 pub struct DestinationClock(pub u32);
 
 impl SourceClock {

@@ -1,6 +1,6 @@
 // What a call tells that hands back nothing else.
 // The numbered answer and the result.
-#[derive(Drop)]
+#[derive(Clone, Copy)]
 pub struct Told {
     pub answer: u8,
     pub result: u64,

@@ -1,4 +1,6 @@
 // Steps from a fresh table on, for benchmarks from Rust: the table stays on this side.
+#![tactic(auto)]
+
 ghost use Rattle.std.specs.Prelude.{◌≡◌};
 ghost use Rattle.measure.specs.Steps.{last_result_of, RunsFresh};
 

@@ -86,7 +86,7 @@ pub fn lose_in(pool: &mut [Place], p: u64) -> Told
 }
 
 // A pool by value, after a step on it.
-#[derive(Drop)]
+#[derive(Clone, Copy)]
 pub struct Pooled {
     pub told: Told,
     pub pool: [Place; MOST_PLACES],

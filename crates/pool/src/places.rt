@@ -6,13 +6,13 @@ use rules::message::Message;
 
 pub const MOST_PLACES: usize = 64;
 
-#[derive(Drop)]
+#[derive(Clone, Copy)]
 pub enum Waiting {
     Empty,
     One(Message),
 }
 
-#[derive(Drop)]
+#[derive(Clone, Copy)]
 pub struct Place {
     pub waiting: Waiting,
 }

@@ -8,7 +8,7 @@ use ground::clocks::{DestinationClock, SourceClock};
 use ground::limits::LAST_CLOCK;
 use rules::held::{HeldSlot, HeldToken, Slot, Token};
 
-#[derive(Drop)]
+#[derive(Clone, Copy)]
 pub(crate) struct Four {
     pub present: u64,
     pub source: u64,

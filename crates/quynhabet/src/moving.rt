@@ -8,13 +8,13 @@ use crate::told::{ToldNumbers, plain_told, told_of};
 use ground::answers::{DONE, NOT_SOUND};
 use station::outcome::Outcome;
 
-#[derive(Drop)]
+#[derive(Clone, Copy)]
 pub(crate) struct Moved {
     pub told: ToldNumbers,
     pub numbers: [u64; 134],
 }
 
-#[derive(Drop)]
+#[derive(Clone, Copy)]
 pub(crate) struct Taken {
     pub told: ToldNumbers,
     pub numbers: [u64; 13],

@@ -14,7 +14,7 @@ use rules::held::{HeldSlot, HeldToken};
 use station::held::{SlotCell, TokenCell};
 use station::station::Station;
 
-#[derive(Drop)]
+#[derive(Clone, Copy)]
 pub(crate) struct Cells {
     pub slots: [SlotCell; MOST_STATIONS],
     pub tokens: [TokenCell; MOST_STATIONS],

@@ -7,7 +7,7 @@ use rules::report::{Report, rules_of};
 // The answer, the result, and the report: the rules that acted as a sum of 1, 2, 4, 8, 16, the
 // quantity of a slot opened and that of a token made.
 #[repr(C)]
-#[derive(Drop)]
+#[derive(Clone, Copy)]
 pub struct ToldNumbers {
     pub answer: u64,
     pub result: u64,

@@ -8,7 +8,7 @@ use crate::numbers::number_at;
 use ground::answers::DONE;
 
 // A line of the table: tag, length, whether the field must be there, whether it is the last one.
-#[derive(Drop)]
+#[derive(Clone, Copy)]
 pub struct Line {
     pub tag: u64,
     pub size: usize,
@@ -17,7 +17,7 @@ pub struct Line {
 }
 
 // 0 and the next byte, or a fault's number and its place.
-#[derive(Drop)]
+#[derive(Clone, Copy)]
 pub struct Cursor {
     pub answer: u8,
     pub at: usize,

@@ -13,7 +13,7 @@ use ground::clocks::{DestinationClock, SourceClock};
 use ground::limits::MOST_VALUE;
 
 // 0 and the byte after field 2 with what was read, or a fault's number and its place.
-#[derive(Drop)]
+#[derive(Clone, Copy)]
 pub struct Ends {
     pub answer: u8,
     pub at: usize,
@@ -22,7 +22,7 @@ pub struct Ends {
 }
 
 // 0 and the byte after field 4 with what was read, or a fault's number and its place.
-#[derive(Drop)]
+#[derive(Clone, Copy)]
 pub struct Front {
     pub answer: u8,
     pub at: usize,

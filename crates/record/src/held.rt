@@ -12,7 +12,7 @@ use rules::held::{HeldSlot, HeldToken, Slot, Token};
 use station::sound::{slot_is_sound, token_is_sound};
 
 // 0 and the next byte with the slot, or a fault's number and its place.
-#[derive(Drop)]
+#[derive(Clone, Copy)]
 pub struct AfterSlot {
     pub answer: u8,
     pub at: usize,
@@ -20,7 +20,7 @@ pub struct AfterSlot {
 }
 
 // 0 and the next byte with the token, or a fault's number and its place.
-#[derive(Drop)]
+#[derive(Clone, Copy)]
 pub struct AfterToken {
     pub answer: u8,
     pub at: usize,

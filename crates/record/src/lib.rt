@@ -1,4 +1,6 @@
 // The message as bytes: one record, read and written, and one station on bytes.
+#![tactic(auto)]
+
 pub mod at_station;
 mod dateless;
 mod faults;

@@ -5,8 +5,8 @@ ghost use Rattle.record.specs.Numbers.{big, number_at};
 
 fn bytes_at(bytes: &[u8], at: usize, size: usize) -> u64
     requires { (size ≤ 8) × (at + size ≤ length bytes.now) }
-    ensures value { result ≡ number_at bytes.now at size }
-    ensures upper_bound { result < 256 ^ size }
+    ensures number { result ≡ number_at bytes.now at size }
+    ensures below { result < 256 ^ size }
 {
     let mut x: u64 = 0;
     let mut k: usize = 0;
@@ -21,8 +21,8 @@ fn bytes_at(bytes: &[u8], at: usize, size: usize) -> u64
 // compiler makes one load of the two.
 pub(crate) fn number_at(bytes: &[u8], at: usize, size: usize) -> u64
     requires { (size ≤ 8) × (at + size ≤ length bytes.now) }
-    ensures value { result ≡ number_at bytes.now at size }
-    ensures upper_bound { result < 256 ^ size }
+    ensures number { result ≡ number_at bytes.now at size }
+    ensures below { result < 256 ^ size }
 {
     if size == 8 {
         return bytes_at(bytes, at, 4) * 4294967296 + bytes_at(bytes, at + 4, 4);

@@ -5,7 +5,7 @@ ghost use Rattle.record.specs.Reading.{next_of};
 
 use crate::fields::{Cursor, Line, take_at};
 
-#[derive(Drop)]
+#[derive(Clone, Copy)]
 pub struct Reader<'a> {
     pub record: &'a [u8],
     pub at: usize,

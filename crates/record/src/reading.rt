@@ -7,7 +7,7 @@ use ground::answers::{DONE, NO_RECORD};
 use rules::message::{Message, no_message};
 
 // The numbered answer, the record's length, and the message.
-#[derive(Drop)]
+#[derive(Clone, Copy)]
 pub struct Reading {
     pub answer: u8,
     pub result: u64,

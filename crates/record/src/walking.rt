@@ -9,7 +9,7 @@ use ground::answers::DONE;
 use rules::message::{Message, no_message};
 
 // 0 and the record's end with its message, or a fault's number and its place.
-#[derive(Drop)]
+#[derive(Clone, Copy)]
 pub struct Walked {
     pub answer: u8,
     pub at: usize,

@@ -2,7 +2,7 @@
 use ground::clocks::{DestinationClock, SourceClock};
 
 // What a station asks of another: opened by rule 3.
-#[derive(Drop)]
+#[derive(Clone, Copy)]
 pub struct Slot {
     pub source: SourceClock,
     pub destination: DestinationClock,
@@ -10,20 +10,20 @@ pub struct Slot {
 }
 
 // What a station gives to another: made by rule 5.
-#[derive(Drop)]
+#[derive(Clone, Copy)]
 pub struct Token {
     pub source: SourceClock,
     pub destination: DestinationClock,
     pub quantity: u64,
 }
 
-#[derive(Drop)]
+#[derive(Clone, Copy)]
 pub enum HeldSlot {
     NoSlot,
     OneSlot(Slot),
 }
 
-#[derive(Drop)]
+#[derive(Clone, Copy)]
 pub enum HeldToken {
     NoToken,
     OneToken(Token),

@@ -1,5 +1,7 @@
 // The five rules of receiving: slots, tokens, messages, what the rules see of a station and what
 // they do to it, and what an add and a draw do to a stock of passes.
+#![tactic(auto)]
+
 mod half;
 pub mod held;
 pub mod message;

@@ -5,7 +5,7 @@ ghost use Rattle.rules.specs.Message.{no_message};
 use crate::held::{HeldSlot, HeldToken};
 use ground::clocks::{DestinationClock, SourceClock};
 
-#[derive(Drop)]
+#[derive(Clone, Copy)]
 pub struct Message {
     pub from: usize,
     pub to: usize,

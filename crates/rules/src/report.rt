@@ -3,7 +3,7 @@ ghost use Rattle.std.specs.Prelude.{◌≡◌, ◌≤◌};
 ghost use Rattle.rules.specs.Report.{no_report, rules_of, number_if_acted};
 
 // Which of the five rules acted, the quantity of a slot opened and that of a token made.
-#[derive(Drop)]
+#[derive(Clone, Copy)]
 pub struct Report {
     pub rule1: bool,
     pub rule2: bool,

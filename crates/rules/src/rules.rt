@@ -10,7 +10,7 @@ use crate::message::Message;
 use crate::side::{Side, put_destination, put_slot, put_source, put_token, put_value};
 
 // What one rule did: whether it acted, its quantity, and the side that it left.
-#[derive(Drop)]
+#[derive(Clone, Copy)]
 pub struct Ruled {
     pub acted: bool,
     pub quantity: u64,
@@ -70,8 +70,8 @@ pub(crate) fn rule1_fill(x: Side, m: Message) -> Ruled
 }
 
 pub(crate) fn rule2_drop_slot(x: Side, m: Message) -> Ruled
-    ensures value { result ≡ drop_slot x m }
-    ensures value_value { result.side.value ≡ x.value }
+    ensures ruled { result ≡ drop_slot x m }
+    ensures value_stays { result.side.value ≡ x.value }
 {
     let held = x.slot;
     let HeldSlot::OneSlot(slot) = held else {

@@ -6,7 +6,7 @@ ghost use Rattle.rules.specs.Side.{put_value, put_source, put_destination, put_s
 use crate::held::{HeldSlot, HeldToken};
 use ground::clocks::{DestinationClock, SourceClock};
 
-#[derive(Drop)]
+#[derive(Clone, Copy)]
 pub struct Side {
     pub value: u64,
     pub source: SourceClock,

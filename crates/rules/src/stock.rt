@@ -7,7 +7,7 @@ use crate::rules::smaller;
 use ground::answers;
 use ground::limits::{MOST_AMOUNT, MOST_INTAKE, MOST_VALUE};
 
-#[derive(Drop)]
+#[derive(Clone, Copy)]
 pub struct Stock {
     pub answer: u8,
     pub result: u64,

@@ -14,7 +14,7 @@ use ground::answers;
 use ground::limits::MOST_VALUE;
 
 // The numbered answer, the amount filled, the report, and the side that the rules left.
-#[derive(Drop)]
+#[derive(Clone, Copy)]
 pub struct Taken {
     pub answer: u8,
     pub result: u64,

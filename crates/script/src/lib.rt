@@ -1,4 +1,6 @@
 // A script of steps: its lines read, what each did printed, all on lent bytes.
+#![tactic(auto)]
+
 mod closing;
 mod limits;
 mod lines;

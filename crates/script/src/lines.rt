@@ -7,7 +7,7 @@ use crate::words::{Numeral, numeral_of, rest_of, same_bytes, word_of};
 use steps::asked::{Asked, Step};
 
 // What two words read as.
-#[derive(Drop)]
+#[derive(Clone, Copy)]
 enum Pair {
     NoPair,
     Both(u64, u64),

@@ -14,7 +14,7 @@ use ground::answers;
 use table::sound::table_is_sound;
 
 // The numbered answer, how many bytes were put, and the run past what was put.
-#[derive(Drop)]
+#[derive(Clone, Copy)]
 pub struct PutLines {
     pub answer: u8,
     pub result: u64,

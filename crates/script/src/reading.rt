@@ -52,7 +52,7 @@ fn put_asked(codes: &mut [u64], at: usize, asked: Asked)
 }
 
 // How many lines were read, and the position past them.
-#[derive(Drop)]
+#[derive(Clone, Copy)]
 pub struct Read {
     pub lines: usize,
     pub at: usize,

@@ -13,7 +13,7 @@ use table::fresh::fresh_table;
 use table::table::Table;
 
 // The table, the position and the number of the next step, and whether all is put.
-#[derive(Drop)]
+#[derive(Clone, Copy)]
 pub struct Run {
     pub table: Table,
     pub at: usize,
@@ -22,7 +22,7 @@ pub struct Run {
 }
 
 // The numbered answer, and the run before its first step.
-#[derive(Drop)]
+#[derive(Clone, Copy)]
 pub struct Started {
     pub answer: u8,
     pub result: u64,

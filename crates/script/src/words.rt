@@ -4,7 +4,7 @@ ghost use Rattle.script.specs.Parts.{digits_of};
 ghost use Rattle.script.specs.Words.{index_of, numeral_of, past, same_bytes, up_to};
 
 // What a word reads as.
-#[derive(Drop)]
+#[derive(Clone, Copy)]
 pub enum Numeral {
     Unreadable,
     Reads(u64),

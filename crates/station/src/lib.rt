@@ -1,4 +1,6 @@
 // One station: what it holds, when it is sound, and its entry points.
+#![tactic(auto)]
+
 pub mod held;
 pub mod message;
 pub mod outcome;

@@ -9,7 +9,7 @@ use ground::answers;
 use rules::message::{Message, no_message};
 
 // The numbered answer, and the message that a station has for another.
-#[derive(Drop)]
+#[derive(Clone, Copy)]
 pub struct Shown {
     pub answer: u8,
     pub message: Message,

@@ -6,7 +6,7 @@ ghost use Rattle.station.specs.Outcome.{refused};
 use crate::station::Station;
 use rules::report::{Report, no_report};
 
-#[derive(Drop)]
+#[derive(Clone, Copy)]
 pub struct Outcome {
     pub answer: u8,
     pub result: u64,

@@ -5,7 +5,7 @@ use ground::limits::MOST_STATIONS;
 
 // Its own number and the count of stations, its value, its intake, its two clocks, and for every
 // peer at most one slot and at most one token.
-#[derive(Drop)]
+#[derive(Clone, Copy)]
 pub struct Station {
     pub number: usize,
     pub count: usize,

@@ -3,7 +3,7 @@ ghost use Rattle.std.specs.Prelude.{◌≡◌};
 ghost use Rattle.steps.specs.Running.{asked_by, numbers_for};
 
 // A station and an amount; a sender and a receiver; a place.
-#[derive(Drop)]
+#[derive(Clone, Copy)]
 pub enum Step {
     Add(u64, u64),
     Draw(u64, u64),
@@ -13,7 +13,7 @@ pub enum Step {
 }
 
 // What was asked for names a step, or none.
-#[derive(Drop)]
+#[derive(Clone, Copy)]
 pub enum Asked {
     NoStep,
     OneStep(Step),

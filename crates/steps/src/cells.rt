@@ -11,14 +11,14 @@ use rules::side::Side;
 use station::station::Station;
 
 // What one station holds for one peer.
-#[derive(Drop)]
+#[derive(Clone, Copy)]
 pub struct Cells {
     pub slot: HeldSlot,
     pub token: HeldToken,
 }
 
 // The cells of station k for station j stand at 16 * k + j.
-#[derive(Drop)]
+#[derive(Clone, Copy)]
 pub struct AllCells {
     pub cells: [Cells; 256],
 }

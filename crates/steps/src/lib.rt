@@ -1,4 +1,6 @@
 // The steps that drive a table, one at a time or as a run of them.
+#![tactic(auto)]
+
 pub mod asked;
 mod cells;
 mod looking;

@@ -10,7 +10,7 @@ use ground::limits::MOST_STATIONS;
 use pool::places::{MOST_PLACES, Waiting};
 
 // A station and a peer of it.
-#[derive(Drop)]
+#[derive(Clone, Copy)]
 pub struct Looked {
     pub station: usize,
     pub peer: usize,

@@ -14,7 +14,7 @@ use rules::taking::Taken;
 
 // What becomes of the one station or place: another stock, another side to the peer, another thing
 // that waits.
-#[derive(Drop)]
+#[derive(Clone, Copy)]
 pub enum Change {
     Nothing,
     AtStock(u64, u64),
@@ -23,7 +23,7 @@ pub enum Change {
 }
 
 // What is told, and what changes.
-#[derive(Drop)]
+#[derive(Clone, Copy)]
 pub struct Plan {
     pub answer: u8,
     pub result: u64,

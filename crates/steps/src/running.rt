@@ -23,7 +23,7 @@ use table::sound::table_is_sound;
 use table::table::Table;
 
 // The numbered answer, how many steps were done, and the table as it then is.
-#[derive(Drop)]
+#[derive(Clone, Copy)]
 pub struct Ran {
     pub answer: u8,
     pub result: u64,

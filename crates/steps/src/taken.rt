@@ -5,7 +5,7 @@ ghost use Rattle.steps.specs.Looking.{flag_of, flags_of, lowest_zero};
 
 use pool::places::{MOST_PLACES, Place, Waiting};
 
-#[derive(Drop)]
+#[derive(Clone, Copy)]
 pub struct Flags {
     pub taken: [u8; MOST_PLACES],
 }

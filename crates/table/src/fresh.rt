@@ -13,7 +13,7 @@ use station::sound::count_is_sound;
 use station::station::Station;
 use station::steps::blank_station;
 
-#[derive(Drop)]
+#[derive(Clone, Copy)]
 pub struct Seats {
     pub stations: [Station; MOST_STATIONS],
 }

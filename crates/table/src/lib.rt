@@ -1,4 +1,6 @@
 // A whole table of stations with the messages waiting between them.
+#![tactic(auto)]
+
 pub mod fresh;
 pub mod sound;
 pub mod stepped;

@@ -3,7 +3,7 @@ use crate::table::Table;
 use rules::report::Report;
 
 // The numbered answer, the result, the report, and the table as it then is.
-#[derive(Drop)]
+#[derive(Clone, Copy)]
 pub struct Stepped {
     pub answer: u8,
     pub result: u64,

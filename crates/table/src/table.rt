@@ -5,7 +5,7 @@ use station::station::Station;
 
 // The count of its stations, an array of stations by number, and the pool. What stands at a number
 // not below the count is no part of the table.
-#[derive(Drop)]
+#[derive(Clone, Copy)]
 pub struct Table {
     pub count: usize,
     pub stations: [Station; MOST_STATIONS],

@@ -1,5 +1,7 @@
 // Input at the edges, through the compiled entry points. Each line is the words, the answer and the
 // result.
+#![tactic(auto)]
+
 use ground::clocks::{DestinationClock, SourceClock};
 use libc::STDOUT_FILENO;
 use pool::places::{Place, Waiting};

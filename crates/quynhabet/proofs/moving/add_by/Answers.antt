@@ -1,0 +1,16 @@
+use mathlib.Core.Path.{sym, ◌∙◌}
+use borrow.Author.Tests.{not-true, not-false}
+use Rattle.quynhabet.specs.Exports.{add_by}
+use borrow.Author.Rules.{rules}
+use Rattle.quynhabet.proofs.moving.add_by.Goals as goal
+
+pub returns-then-not-station_fits : goal.returns-then-not-station_fits
+unfolding add_by
+returns-then-not-station_fits c = rw (sym c.station_fits.ensures ∙ c.if-not-station_fits.true) c.unfit.ensures
+
+pub station_of-requires : goal.station_of-requires
+station_of-requires c = sym c.station_fits.ensures ∙ c.if-not-station_fits.false
+
+pub returns : goal.returns
+unfolding add_by
+returns c = rw (sym c.station_fits.ensures ∙ c.if-not-station_fits.false, ← c.station_of.ensures, ← c.add.ensures) c.settle.ensures

@@ -1,0 +1,14 @@
+use Prim.Native.Nat.{◌≤◌, ◌-◌}
+use mathlib.Core.Path.{◌≡◌, ap, sym, ◌∙◌}
+use native.Mathlib.Omega.{arith}
+use Rattle.ground.specs.Below.{all_below}
+use Rattle.ground.proofs.Below.{all_none, all_more}
+use Rattle.quynhabet.specs.Layout.{cells_fit}
+use borrow.Author.Rules.{rules}
+use Rattle.quynhabet.proofs.stations.cells_fit.Given as goal
+
+abbrev pub invariant-loop-k : goal.invariant-loop-k
+invariant-loop-k l = (l.k ≤ 16) × (l.initial.k ≡ all_below (cells_fit l.numbers) l.k)
+
+abbrev pub decreases-loop-k : goal.decreases-loop-k
+decreases-loop-k l = 16 - l.k

@@ -1,0 +1,15 @@
+use native.Mathlib.Omega.{arith}
+use borrow.Author.Rules.{rules}
+use Prim.Native.Nat.{◌+◌, ◌-◌, ◌≤◌}
+use mathlib.Core.Path.{◌≡◌, refl, ap, ◌∙◌}
+use lib.ListN.{length}
+use lib.Seq.{sets, length-sets}
+use Rattle.script.specs.Script.{station_lines}
+use Rattle.script.proofs.Closings.{length_stations, no_stations, station_turn, stations_put}
+use Rattle.script.proofs.closing.put_stations.Given as goal
+
+abbrev pub invariant-loop-k : goal.invariant-loop-k
+invariant-loop-k l = (l.k ≤ l.out.count) × (length l.next ≡ length l.initial.out) × (l.initial.k ≡ 0 + length (station_lines l.out l.k)) × (l.next ≡ sets l.initial.out 0 (station_lines l.out l.k))
+
+abbrev pub decreases-loop-k : goal.decreases-loop-k
+decreases-loop-k l = l.out.count - l.k

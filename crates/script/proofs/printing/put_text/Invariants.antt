@@ -1,0 +1,16 @@
+use Prim.Native.Nat.{◌+◌, ◌-◌, ◌≤◌}
+use mathlib.Core.Path.{◌≡◌, refl, ◌∙◌}
+use native.Mathlib.Omega.{arith}
+use native.Mathlib.Nat.{add-zero}
+use lib.ListN.{length, drop, length-set}
+use lib.Seq.{sets}
+use borrow.Author.Rules.{rules}
+use Rattle.script.proofs.Puts.{text_turn, text_none}
+use Rattle.script.proofs.printing.put_text.Given as goal
+
+-- what is still to be stored, stored now, gives the end result
+abbrev pub invariant-loop-k : goal.invariant-loop-k
+invariant-loop-k l = (l.k ≤ length l.at) × (length l.initial.k ≡ length l.initial.out) × (sets l.initial.k (l.out + l.k) (drop l.k l.at) ≡ sets l.initial.out l.out l.at)
+
+abbrev pub decreases-loop-k : goal.decreases-loop-k
+decreases-loop-k l = length l.at - l.k

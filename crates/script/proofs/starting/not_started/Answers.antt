@@ -1,0 +1,7 @@
+use Rattle.table.specs.Fresh.{fresh_table_of}
+use borrow.Author.Rules.{rules}
+use Rattle.script.proofs.starting.not_started.Goals as goal
+
+pub returns : goal.returns
+unfolding fresh_table_of
+returns c = rw c.fresh_table-none.ensures

@@ -1,0 +1,15 @@
+use borrow.Author.Rules.{rules}
+use native.Mathlib.Omega.{arith}
+use Prim.Native.Nat.{◌+◌, ◌-◌, ◌≤◌}
+use mathlib.Core.Path.{◌≡◌, refl, ap, ◌∙◌}
+use lib.ListN.{length}
+use lib.Seq.{sets, length-sets}
+use Rattle.script.specs.Telling.{lines_of_told}
+use Rattle.script.proofs.Tells.{all_said, said_none, said_short, said_turn}
+use Rattle.script.proofs.telling.put_told.Given as goal
+
+abbrev pub invariant-loop-k : goal.invariant-loop-k
+invariant-loop-k l = (l.k ≤ l.steps) × (length l.size ≡ length l.initial.out) × (l.initial.k ≡ 0 + length (lines_of_told l.k l.first l.told)) × (l.size ≡ sets l.initial.out 0 (lines_of_told l.k l.first l.told))
+
+abbrev pub decreases-loop-k : goal.decreases-loop-k
+decreases-loop-k l = l.steps - l.k

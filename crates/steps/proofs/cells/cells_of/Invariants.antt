@@ -1,0 +1,20 @@
+use Prim.Native.Nat.{ℕ, ◌-◌, ◌/◌, ◌%◌, ◌<◌, ◌≤◌}
+use mathlib.Core.Path.{◌≡◌, refl, sym, ◌∙◌, ap}
+use mathlib.Core.Logic.{⊎_elim}
+use native.Mathlib.Omega.{arith}
+use borrow.Author.Rules.{rules}
+use lib.ListN.{length, get_or, length-set}
+use lib.Seq.{ext_get_or}
+use Rattle.table.specs.Table.{station_in}
+use Rattle.steps.specs.Cells.{cells_for, cells_of}
+use Rattle.ground.proofs.Stores.{one_more}
+use Rattle.steps.proofs.Held.{no_cells, cells_length, cell_there}
+use Rattle.steps.proofs.cells.cells_of.Given as goal
+
+-- the station at hand is the one whose cell was last put
+abbrev pub invariant-loop-n : goal.invariant-loop-n
+invariant-loop-n l =
+    (l.n ≤ 256) × (length l.s ≡ 256) × (l.initial.n ≡ station_in l.stations ((l.n - 1) / 16)) × ((q : ℕ) → q < l.n → get_or l.s q no_cells ≡ get_or (cells_of l.stations) q no_cells)
+
+abbrev pub decreases-loop-n : goal.decreases-loop-n
+decreases-loop-n l = 256 - l.n

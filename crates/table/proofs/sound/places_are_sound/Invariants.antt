@@ -1,0 +1,21 @@
+use mathlib.Core.Path.{◌≡◌, ap, sym, ◌∙◌}
+use native.Mathlib.Omega.{arith}
+use borrow.Author.Rules.{rules}
+use Prim.Native.Nat.{ℕ, ◌≤◌, ◌-◌}
+use mathlib.Core.Bool.{Bool}
+use Rattle.ground.specs.Below.{all_below}
+use mathlib.Core.List.{List}
+use Rattle.pool.specs.declared.places.Place.{Place}
+use Rattle.ground.proofs.Below.{all_none, all_more}
+use Rattle.pool.specs.Pool.{place_in}
+use Rattle.table.specs.Sound.{place_sound}
+use Rattle.table.proofs.sound.places_are_sound.Given as goal
+
+abbrev test : List Place → ℕ → ℕ → Bool
+test pool count p = place_sound (place_in pool p) count
+
+abbrev pub invariant-loop-p : goal.invariant-loop-p
+invariant-loop-p l = (l.p ≤ 64) × (l.initial.p ≡ all_below (test l.pool l.count) l.p)
+
+abbrev pub decreases-loop-p : goal.decreases-loop-p
+decreases-loop-p l = 64 - l.p
