@@ -13,4 +13,4 @@ pub returns-then-left-size : goal.returns-then-left-size
 returns-then-left-size c = too_short _ _ _ _ (omega arith)
 
 pub returns : goal.returns
-returns c = tested _ _ _ _ _ _ (omega arith) c.number_at.ensures.0 c.number_at-2.ensures.0
+returns c = tested _ _ _ _ _ _ (omega arith) c.number_at.ensures.number c.number_at-2.ensures.number

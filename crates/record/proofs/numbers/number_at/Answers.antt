@@ -9,4 +9,4 @@ returns-then-size-eq8 c =
     let a = c.args in
     let high = c.bytes_at.ensures in
     let low = c.bytes_at-then-size-eq8.ensures in
-    rw c.if-size-eq8.true (rw (high.0, low.0) (sym (in_parts a.bytes.now a.at 4 4)), omega arith)
+    rw c.if-size-eq8.true (record { number = rw (high.number, low.number) (sym (in_parts a.bytes.now a.at 4 4)); below = omega arith })

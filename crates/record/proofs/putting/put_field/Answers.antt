@@ -10,9 +10,7 @@ use Rattle.record.proofs.putting.put_field.Goals as goal
 
 pub returns : goal.returns
 returns c =
-    let last = c in
-    let first = last in
-    let a = first.before.before.before.args in
+    let a = c.args in
     rw (append-nil (big a.size a.x), add-zero a.size)
-    (then a.buffer.now a.at (a.at + 3) (big 1 a.tag ++ big 2 a.size) (big a.size a.x) _ _ first.put-head.ensures last.put_number.ensures
+    (then a.buffer.now a.at (a.at + 3) (big 1 a.tag ++ big 2 a.size) (big a.size a.x) _ _ c.put_head.ensures c.put_number.ensures
     (simp (length-append, length_big)))
