@@ -1,11 +1,12 @@
 -- Fields 5 and 6 as the code reads them, and what the whole walk then comes to. Assumes nothing.
-use Prim.Native.Nat.{ℕ, zero, suc, ◌+◌}
+use Prim.Native.Nat.{ℕ, zero, suc, ◌+◌, ◌≤◌}
 use mathlib.Core.Path.{◌≡◌, refl, sym, ◌∙◌}
 use mathlib.Core.Logic.{◌⊎◌, inl, inr}
 use mathlib.Core.List.{List, [], ◌∷◌, ◌++◌}
 use mathlib.Core.Bool.{Bool, true, false, ◌||◌, not}
 use native.Mathlib.Omega.{arith}
 use lib.Dec.{eqb}
+use lib.ListN.{length}
 use borrow.Author.Tests.{eqb-true, eqb-false}
 use Rattle.ground.specs.declared.clocks.SourceClock.{SourceClock}
 use Rattle.ground.specs.declared.clocks.DestinationClock.{DestinationClock}
@@ -18,7 +19,7 @@ use Rattle.station.specs.Sound.{slot_sound, token_sound}
 use Rattle.record.specs.declared.fields.Cursor.{Cursor}
 use Rattle.record.specs.Faults.{unsound_number}
 use Rattle.record.specs.Numbers.{number_at}
-use Rattle.record.specs.Fields.{Body, missing, Field, number_of}
+use Rattle.record.specs.Fields.{Body, missing, Field, number_of, total}
 use Rattle.record.specs.Walk.{going, stopped, numbers_at, step}
 use Rattle.record.specs.Dateless.{slot_field, token_field, slot_body, token_body}
 use Rattle.record.specs.Reading.{stood, line_for, next_of}
@@ -44,6 +45,13 @@ pub on_both : (n p at : ℕ) → (not (eqb n 0) || eqb p at) ≡ false → (n �
 on_both n p at e =
     by_test (eqb n 0) (λ z. let f : eqb p at ≡ false = rw z at e in (eqb-true n 0 z, eqb-false p at f))
     (λ z. let f : true ≡ false = rw z at e in let w : ◌≡◌ {A = ℕ} 0 1 = cc in absurd (omega arith))
+
+-- where the code has found the field, the whole of it is there
+pub held_room : (bytes : List ℕ) (f : Field) (last : Bool) (at : ℕ) (c : Cursor) → c ≡ next_of bytes at (line_for f last) → (not (eqb c.answer 0) || eqb c.at at) ≡ false
+    → at + 3 + total f.sizes ≤ length bytes
+held_room bytes f last at c is e =
+    let on = on_both c.answer c.at at e in
+    (stands bytes f last at c is on.0 (inr on.1)).room
 
 -- a field that may be missing and is a fault, or missing
 module _ (bytes : List ℕ) (f : Field) (last : Bool) (at : ℕ) (c : Cursor) (is : c ≡ next_of bytes at (line_for f last)) where

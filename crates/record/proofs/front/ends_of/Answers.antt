@@ -8,7 +8,7 @@ use Rattle.record.proofs.front.ends_of.Goals as goal
 here : (c : Else-second-ne-DONE) → Here c.args.bytes.now c.next_at-first.result.at 2 1
 here c =
     let told = c in
-    second_here _ _ told.next_at-first.ensures told.if-first-ne-DONE.false _ told.number_at-from.ensures.0 (omega arith) _ c.next_at-second.ensures c.if-second-ne-DONE.false
+    second_here _ _ told.next_at-first.ensures told.if-first-ne-DONE.false _ told.number_at-from.ensures.number (omega arith) _ c.next_at-second.ensures c.if-second-ne-DONE.false
 
 pub returns-then-first-ne-DONE : goal.returns-then-first-ne-DONE
 returns-then-first-ne-DONE c =
@@ -24,13 +24,13 @@ pub returns-then-from-gt15 : goal.returns-then-from-gt15
 returns-then-from-gt15 c =
     let told = c in
     rw c.no_ends-then-from-gt15.ensures
-    (from_fault _ _ told.next_at-first.ensures told.if-first-ne-DONE.false _ told.number_at-from.ensures.0 c.if-from-gt15.true)
+    (from_fault _ _ told.next_at-first.ensures told.if-first-ne-DONE.false _ told.number_at-from.ensures.number c.if-from-gt15.true)
 
 pub returns-then-second-ne-DONE : goal.returns-then-second-ne-DONE
 returns-then-second-ne-DONE c =
     let told = c in
     rw c.no_ends-then-second-ne-DONE.ensures
-    (second_fault _ _ told.next_at-first.ensures told.if-first-ne-DONE.false _ told.number_at-from.ensures.0 (omega arith) _ c.next_at-second.ensures _ c.if-second-ne-DONE.true)
+    (second_fault _ _ told.next_at-first.ensures told.if-first-ne-DONE.false _ told.number_at-from.ensures.number (omega arith) _ c.next_at-second.ensures _ c.if-second-ne-DONE.true)
 
 pub overflow_add-at : goal.overflow_add-at
 overflow_add-at c = let room = (here c).room in omega arith
@@ -42,9 +42,9 @@ pub returns-then-to-from : goal.returns-then-to-from
 returns-then-to-from c =
     let told = c in
     rw c.no_ends-then-to-from.ensures
-    (to_fault _ _ told.next_at-first.ensures told.if-first-ne-DONE.false _ told.number_at-from.ensures.0 (omega arith) _ c.next_at-second.ensures c.if-second-ne-DONE.false _ c.number_at-to.ensures.0 c.if-to-from.true)
+    (to_fault _ _ told.next_at-first.ensures told.if-first-ne-DONE.false _ told.number_at-from.ensures.number (omega arith) _ c.next_at-second.ensures c.if-second-ne-DONE.false _ c.number_at-to.ensures.number c.if-to-from.true)
 
 pub returns : goal.returns
 returns c =
     let told = c in
-    ends_taken _ _ told.next_at-first.ensures told.if-first-ne-DONE.false _ told.number_at-from.ensures.0 (omega arith) _ c.next_at-second.ensures c.if-second-ne-DONE.false _ c.number_at-to.ensures.0 c.if-to-from.false
+    ends_taken _ _ told.next_at-first.ensures told.if-first-ne-DONE.false _ told.number_at-from.ensures.number (omega arith) _ c.next_at-second.ensures c.if-second-ne-DONE.false _ c.number_at-to.ensures.number c.if-to-from.false

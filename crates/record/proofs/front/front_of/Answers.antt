@@ -18,7 +18,7 @@ third c =
 fourth : (c : Else-fourth-ne-DONE) → Here c.args.bytes.now c.next_at-third.result.at 4 8
 fourth c =
     let before = c.ends_of-ends.ensures ∙ stood_goes _ _ _ c.if-ends-ne-DONE.false in
-    fourth_here _ _ _ _ before _ c.next_at-third.ensures c.if-third-ne-DONE.false _ c.number_at-value.ensures.0
+    fourth_here _ _ _ _ before _ c.next_at-third.ensures c.if-third-ne-DONE.false _ c.number_at-value.ensures.number
     (omega (arith, c.if-value-gt-MOST_VALUE.false)) _ c.next_at-fourth.ensures c.if-fourth-ne-DONE.false
 
 pub returns-then-ends-ne-DONE : goal.returns-then-ends-ne-DONE
@@ -47,7 +47,7 @@ returns-then-value-gt-MOST_VALUE c =
     let ends = told.ends_of-ends in
     let before = ends.ensures ∙ stood_goes _ _ _ told.if-ends-ne-DONE.false in
     rw c.no_front-then-value-gt-MOST_VALUE.ensures
-    (value_fault _ _ _ _ before _ told.next_at-third.ensures c.if-third-ne-DONE.false _ c.number_at-value.ensures.0 c.if-value-gt-MOST_VALUE.true)
+    (value_fault _ _ _ _ before _ told.next_at-third.ensures c.if-third-ne-DONE.false _ c.number_at-value.ensures.number c.if-value-gt-MOST_VALUE.true)
 
 pub returns-then-fourth-ne-DONE : goal.returns-then-fourth-ne-DONE
 returns-then-fourth-ne-DONE c =
@@ -56,7 +56,7 @@ returns-then-fourth-ne-DONE c =
     let ends = told.ends_of-ends in
     let before = ends.ensures ∙ stood_goes _ _ _ told.if-ends-ne-DONE.false in
     rw c.no_front-then-fourth-ne-DONE.ensures
-    (fourth_fault _ _ _ _ before _ told.next_at-third.ensures value.if-third-ne-DONE.false _ value.number_at-value.ensures.0 (omega arith) _ c.next_at-fourth.ensures _ c.if-fourth-ne-DONE.true)
+    (fourth_fault _ _ _ _ before _ told.next_at-third.ensures value.if-third-ne-DONE.false _ value.number_at-value.ensures.number (omega arith) _ c.next_at-fourth.ensures _ c.if-fourth-ne-DONE.true)
 
 pub overflow_add-clocks : goal.overflow_add-clocks
 overflow_add-clocks c = let room = (fourth c).room in omega arith
@@ -76,4 +76,4 @@ returns c =
     let told = value in
     let ends = told.ends_of-ends in
     let before = ends.ensures ∙ stood_goes _ _ _ told.if-ends-ne-DONE.false in
-    front_taken _ _ _ _ before _ told.next_at-third.ensures value.if-third-ne-DONE.false _ value.number_at-value.ensures.0 (omega (arith, c.if-value-gt-MOST_VALUE.false)) _ c.next_at-fourth.ensures c.if-fourth-ne-DONE.false _ _ c.source_at.ensures c.destination_at.ensures
+    front_taken _ _ _ _ before _ told.next_at-third.ensures value.if-third-ne-DONE.false _ value.number_at-value.ensures.number (omega (arith, c.if-value-gt-MOST_VALUE.false)) _ c.next_at-fourth.ensures c.if-fourth-ne-DONE.false _ _ c.source_at.ensures c.destination_at.ensures
