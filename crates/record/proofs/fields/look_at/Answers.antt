@@ -1,6 +1,5 @@
 use mathlib.Core.Path.{sym, ◌∙◌}
 use native.Mathlib.Omega.{arith}
-use borrow.Author.Rules.{rules}
 use Rattle.record.proofs.Finding.{nothing_left, none, head_cut, another, gone, wrong_length, body_cut, whole}
 use Rattle.record.proofs.fields.look_at.Goals as goal
 

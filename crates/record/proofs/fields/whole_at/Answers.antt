@@ -1,5 +1,4 @@
 use native.Mathlib.Omega.{arith}
-use borrow.Author.Rules.{rules}
 use Rattle.record.proofs.Finding.{too_short, tested}
 use Rattle.record.proofs.fields.whole_at.Goals as goal
 

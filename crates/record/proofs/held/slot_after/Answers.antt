@@ -1,6 +1,6 @@
 use mathlib.Core.Path.{sym, ◌∙◌}
 use native.Mathlib.Omega.{arith}
-use mathlib.Core.Bool.{true, false}
+use mathlib.Core.Bool.{false}
 use borrow.Author.Rules.{rules}
 use Rattle.record.specs.Dateless.{slot_field}
 use Rattle.record.proofs.Helds.{not_both, on_both, not_taken, held_room, slot_refused, slot_taken}

@@ -1,9 +1,6 @@
-use Prim.Native.Nat.{◌+◌, ◌≤◌, ◌<◌, ◌-◌, ◌^◌}
-use mathlib.Core.Path.{◌≡◌, sym}
-use native.Mathlib.Omega.{arith}
-use borrow.Author.Rules.{rules}
+use Prim.Native.Nat.{◌≤◌, ◌<◌, ◌-◌, ◌^◌}
+use mathlib.Core.Path.{◌≡◌}
 use Rattle.record.specs.Numbers.{number_at}
-use Rattle.record.proofs.Bytes.{read_none, read_more, room, grown}
 use Rattle.record.proofs.numbers.bytes_at.Given as goal
 
 abbrev pub invariant-loop-k : goal.invariant-loop-k

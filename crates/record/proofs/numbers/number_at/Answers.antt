@@ -1,6 +1,5 @@
 use mathlib.Core.Path.{sym}
 use native.Mathlib.Omega.{arith}
-use borrow.Author.Rules.{rules}
 use Rattle.record.proofs.Bytes.{in_parts}
 use Rattle.record.proofs.numbers.number_at.Goals as goal
 

@@ -1,9 +1,7 @@
-use Prim.Native.Nat.{◌-◌, ◌≤◌}
+use Prim.Native.Nat.{◌-◌}
 use mathlib.Core.Path.{◌≡◌, refl, ◌∙◌}
 use native.Mathlib.Omega.{arith}
-use lib.Seq.{sets}
 use borrow.Author.Rules.{rules}
-use Rattle.record.specs.Numbers.{big}
 use Rattle.record.proofs.Bytes.{put_turn, put_none}
 use Rattle.record.proofs.numbers.put_number.Goals as goal
 

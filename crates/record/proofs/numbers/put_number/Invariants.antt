@@ -1,10 +1,7 @@
-use Prim.Native.Nat.{◌-◌, ◌≤◌}
-use mathlib.Core.Path.{◌≡◌, refl, ◌∙◌}
-use native.Mathlib.Omega.{arith}
+use Prim.Native.Nat.{◌≤◌}
+use mathlib.Core.Path.{◌≡◌}
 use lib.Seq.{sets}
-use borrow.Author.Rules.{rules}
 use Rattle.record.specs.Numbers.{big}
-use Rattle.record.proofs.Bytes.{put_turn, put_none}
 use Rattle.record.proofs.numbers.put_number.Given as goal
 
 -- what is still to be stored, stored now, gives the end result

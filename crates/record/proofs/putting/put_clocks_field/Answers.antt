@@ -1,7 +1,6 @@
 use Prim.Native.Nat.{◌+◌}
 use mathlib.Core.List.{◌++◌, append-nil}
 use lib.ListN.{length-append}
-use borrow.Author.Rules.{rules}
 use Rattle.record.specs.Numbers.{big}
 use Rattle.ground.proofs.Stores.{then}
 use Rattle.record.proofs.Digits.{length_big}

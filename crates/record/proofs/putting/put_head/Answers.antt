@@ -1,5 +1,4 @@
 use Prim.Native.Nat.{◌+◌}
-use borrow.Author.Rules.{rules}
 use Rattle.record.specs.Numbers.{big}
 use Rattle.ground.proofs.Stores.{then}
 use Rattle.record.proofs.Digits.{length_big}

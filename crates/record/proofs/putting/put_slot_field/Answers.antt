@@ -1,5 +1,4 @@
 use native.Mathlib.Omega.{arith}
-use borrow.Author.Rules.{rules}
 use Rattle.record.proofs.Lengths.{length_slot}
 use Rattle.record.proofs.putting.put_slot_field.Goals as goal
 

@@ -1,5 +1,4 @@
 use native.Mathlib.Omega.{arith}
-use borrow.Author.Rules.{rules}
 use Rattle.record.proofs.Lengths.{length_token}
 use Rattle.record.proofs.putting.put_token_field.Goals as goal
 

@@ -1,6 +1,5 @@
 use mathlib.Core.List.{[], ◌∷◌, ◌++◌}
 use lib.ListN.{length-append}
-use borrow.Author.Rules.{rules}
 use Rattle.record.specs.Fields.{tagged}
 use Rattle.ground.proofs.Stores.{then}
 use Rattle.record.proofs.Digits.{length_big}

@@ -2,8 +2,7 @@ use Prim.Native.Nat.{◌≤◌}
 use mathlib.Core.Path.{refl, sym, ◌∙◌}
 use native.Mathlib.Omega.{arith}
 use lib.ListN.{length}
-use borrow.Author.Tests.{not-true, not-false, lt-ltb, le-ltb}
-use borrow.Author.Rules.{rules}
+use borrow.Author.Tests.{lt-ltb, le-ltb}
 use Rattle.record.specs.Dateless.{record_of}
 use Rattle.ground.proofs.Stores.{in_front_lem}
 use Rattle.record.proofs.writing.write.Goals as goal
