@@ -1,4 +1,4 @@
-use mathlib.Core.Path.{◌≡◌, sym}
+use mathlib.Core.Path.{sym}
 use native.Mathlib.Omega.{arith}
 use borrow.Author.Rules.{rules}
 use Rattle.record.proofs.Bytes.{read_none, read_more, room, grown}
@@ -23,9 +23,3 @@ loop-k-preserved c =
       number = rw at.invariant.number (sym (read_more _ _ at.k));
       below = grown at.k at.x _ at.invariant.below (omega arith);
     }
-
-pub returns : goal.returns
-returns c =
-    let at = c.loop-k in
-    let e : at.k ≡ c.args.size = omega arith in
-    rw (← e) (record { number = at.invariant.number; below = at.invariant.below })

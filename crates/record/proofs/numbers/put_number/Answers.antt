@@ -1,12 +1,8 @@
 use Prim.Native.Nat.{◌-◌}
-use mathlib.Core.Path.{◌≡◌, refl, ◌∙◌}
+use mathlib.Core.Path.{◌≡◌, ◌∙◌}
 use native.Mathlib.Omega.{arith}
-use borrow.Author.Rules.{rules}
 use Rattle.record.proofs.Bytes.{put_turn, put_none}
 use Rattle.record.proofs.numbers.put_number.Goals as goal
-
-pub loop-k-init : goal.loop-k-init
-loop-k-init c = record { within = search rules; put = refl }
 
 pub loop-k-preserved : goal.loop-k-preserved
 loop-k-preserved c =
