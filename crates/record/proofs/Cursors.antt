@@ -92,8 +92,8 @@ module _ (bytes : List ℕ) (f : Field) (last : Bool) (at : ℕ) (c : Cursor) (i
       pub past : c.at ≡ at + 3 + total f.sizes
       past = at_is ∙ ap (λ (l : Look). (cursor_at at (total f.sizes) l).at) (found_seen there)
 
-      pub room : at + 3 + total f.sizes ≤ length bytes
-      room = stands.room
+      pub field_room : at + 3 + total f.sizes ≤ length bytes
+      field_room = stands.room
 
       module _ (before : List Body) (numbers : List ℕ) (read : numbers ≡ numbers_at bytes (at + 3) f.sizes) where
         -- its numbers are sound, or are not

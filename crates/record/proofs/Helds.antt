@@ -23,7 +23,7 @@ use Rattle.record.specs.Fields.{Body, missing, Field, number_of, total}
 use Rattle.record.specs.Walk.{going, stopped, numbers_at, step}
 use Rattle.record.specs.Dateless.{slot_field, token_field, slot_body, token_body}
 use Rattle.record.specs.Reading.{stood, line_for, next_of}
-use Rattle.record.proofs.Cursors.{stood_stops, stood_goes, faulted, missed, room, took, refused}
+use Rattle.record.proofs.Cursors.{stood_stops, stood_goes, faulted, missed, field_room, took, refused}
 
 -- the numbers of a slot's or a token's field, as the code reads them
 abbrev pub Three : List ℕ → ℕ → ℕ → ℕ → ℕ → Type 0
@@ -50,7 +50,7 @@ pub held_room : (bytes : List ℕ) (f : Field) (last : Bool) (at : ℕ) (c : Cur
     → at + 3 + total f.sizes ≤ length bytes
 held_room bytes f last at c is e =
     let on = on_both c.answer c.at at e in
-    room bytes f last at c is on.0 (inr on.1)
+    field_room bytes f last at c is on.0 (inr on.1)
 
 -- a field that may be missing and is a fault, or missing
 module _ (bytes : List ℕ) (f : Field) (last : Bool) (at : ℕ) (c : Cursor) (is : c ≡ next_of bytes at (line_for f last)) where

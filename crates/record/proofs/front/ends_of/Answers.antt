@@ -4,7 +4,7 @@ use mathlib.Core.Logic.{inl}
 use native.Mathlib.Omega.{arith}
 use borrow.Author.Rules.{rules}
 use Rattle.record.specs.Dateless.{from_field, to_field}
-use Rattle.record.proofs.Cursors.{room}
+use Rattle.record.proofs.Cursors.{field_room}
 use Rattle.record.proofs.Fronts.{first_fault, from_fault, second_fault, to_fault, ends_taken}
 use Rattle.record.proofs.front.ends_of.Goals as goal
 
@@ -14,7 +14,7 @@ returns-then-first-ne-DONE c =
     (first_fault _ _ c.next_at-first.ensures _ c.if-first-ne-DONE.true)
 
 pub number_at-from-requires : goal.number_at-from-requires
-number_at-from-requires c = (search rules, omega (arith, room _ from_field false _ _ c.next_at-first.ensures c.if-first-ne-DONE.false (inl refl)))
+number_at-from-requires c = (search rules, omega (arith, field_room _ from_field false _ _ c.next_at-first.ensures c.if-first-ne-DONE.false (inl refl)))
 
 pub returns-then-from-gt15 : goal.returns-then-from-gt15
 returns-then-from-gt15 c =
@@ -27,10 +27,10 @@ returns-then-second-ne-DONE c =
     (second_fault _ _ c.next_at-first.ensures c.if-first-ne-DONE.false _ c.number_at-from.ensures.number (omega arith) _ c.next_at-second.ensures _ c.if-second-ne-DONE.true)
 
 pub overflow_add-at : goal.overflow_add-at
-overflow_add-at c = omega (arith, room _ to_field false _ _ c.next_at-second.ensures c.if-second-ne-DONE.false (inl refl))
+overflow_add-at c = omega (arith, field_room _ to_field false _ _ c.next_at-second.ensures c.if-second-ne-DONE.false (inl refl))
 
 pub number_at-to-requires : goal.number_at-to-requires
-number_at-to-requires c = (search rules, omega (arith, room _ to_field false _ _ c.next_at-second.ensures c.if-second-ne-DONE.false (inl refl)))
+number_at-to-requires c = (search rules, omega (arith, field_room _ to_field false _ _ c.next_at-second.ensures c.if-second-ne-DONE.false (inl refl)))
 
 pub returns-then-to-from : goal.returns-then-to-from
 returns-then-to-from c =

@@ -6,7 +6,7 @@ use borrow.Author.Rules.{rules}
 use Rattle.record.specs.Reading.{ends_bodies, front_walk}
 use Rattle.record.specs.Walk.{step}
 use Rattle.record.specs.Dateless.{value_field, clocks_field}
-use Rattle.record.proofs.Cursors.{stood_stops, stood_goes, room}
+use Rattle.record.proofs.Cursors.{stood_stops, stood_goes, field_room}
 use Rattle.record.proofs.Fronts.{third_fault, value_fault, fourth_fault, front_taken}
 use Rattle.record.proofs.front.front_of.Goals as goal
 
@@ -23,10 +23,10 @@ returns-then-third-ne-DONE c =
     rw c.no_front-then-third-ne-DONE.ensures (third_fault _ _ _ _ before _ c.next_at-third.ensures _ c.if-third-ne-DONE.true)
 
 pub overflow_add-at : goal.overflow_add-at
-overflow_add-at c = omega (arith, room _ value_field false _ _ c.next_at-third.ensures c.if-third-ne-DONE.false (inl refl))
+overflow_add-at c = omega (arith, field_room _ value_field false _ _ c.next_at-third.ensures c.if-third-ne-DONE.false (inl refl))
 
 pub number_at-value-requires : goal.number_at-value-requires
-number_at-value-requires c = (search rules, omega (arith, room _ value_field false _ _ c.next_at-third.ensures c.if-third-ne-DONE.false (inl refl)))
+number_at-value-requires c = (search rules, omega (arith, field_room _ value_field false _ _ c.next_at-third.ensures c.if-third-ne-DONE.false (inl refl)))
 
 pub returns-then-value-gt-MOST_VALUE : goal.returns-then-value-gt-MOST_VALUE
 returns-then-value-gt-MOST_VALUE c =
@@ -43,16 +43,16 @@ returns-then-fourth-ne-DONE c =
     (fourth_fault _ _ _ _ before _ c.next_at-third.ensures c.if-third-ne-DONE.false _ c.number_at-value.ensures.number (omega arith) _ c.next_at-fourth.ensures _ c.if-fourth-ne-DONE.true)
 
 pub overflow_add-clocks : goal.overflow_add-clocks
-overflow_add-clocks c = omega (arith, room _ clocks_field false _ _ c.next_at-fourth.ensures c.if-fourth-ne-DONE.false (inl refl))
+overflow_add-clocks c = omega (arith, field_room _ clocks_field false _ _ c.next_at-fourth.ensures c.if-fourth-ne-DONE.false (inl refl))
 
 pub source_at-requires : goal.source_at-requires
-source_at-requires c = omega (arith, room _ clocks_field false _ _ c.next_at-fourth.ensures c.if-fourth-ne-DONE.false (inl refl))
+source_at-requires c = omega (arith, field_room _ clocks_field false _ _ c.next_at-fourth.ensures c.if-fourth-ne-DONE.false (inl refl))
 
 pub overflow_add-clocks-2 : goal.overflow_add-clocks-2
-overflow_add-clocks-2 c = omega (arith, room _ clocks_field false _ _ c.next_at-fourth.ensures c.if-fourth-ne-DONE.false (inl refl))
+overflow_add-clocks-2 c = omega (arith, field_room _ clocks_field false _ _ c.next_at-fourth.ensures c.if-fourth-ne-DONE.false (inl refl))
 
 pub destination_at-requires : goal.destination_at-requires
-destination_at-requires c = omega (arith, room _ clocks_field false _ _ c.next_at-fourth.ensures c.if-fourth-ne-DONE.false (inl refl))
+destination_at-requires c = omega (arith, field_room _ clocks_field false _ _ c.next_at-fourth.ensures c.if-fourth-ne-DONE.false (inl refl))
 
 pub returns : goal.returns
 returns c =
