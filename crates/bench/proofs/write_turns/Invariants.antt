@@ -9,7 +9,7 @@ use lib.ListN.{length}
 use Rattle.bench.proofs.write_turns.Given as goal
 
 abbrev pub invariant-loop-turns : goal.invariant-loop-turns
-invariant-loop-turns l = (l.turns ≤ 65537) × (length l.run ≡ length l.initial.out)
+invariant-loop-turns l = (l.turns ≤ 65537) × (length l.out ≡ length l.initial.out)
 
 abbrev pub decreases-loop-turns : goal.decreases-loop-turns
 decreases-loop-turns l = 65537 - l.turns

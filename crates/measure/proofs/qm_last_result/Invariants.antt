@@ -13,7 +13,7 @@ use Rattle.measure.proofs.Lasts.{result_next, result_ended}
 use Rattle.measure.proofs.qm_last_result.Given as goal
 
 abbrev pub invariant-loop-n : goal.invariant-loop-n
-invariant-loop-n l = (l.n ≤ l.initial.last) × (3 * l.initial.last ≤ length l.codes) × (last_result l.whole l.initial.n (asked_from l.codes l.initial.last l.n) ≡ last_result (fresh_table_of l.count).table 0 (asked_in l.initial.last l.codes))
+invariant-loop-n l = (l.n ≤ l.whole) × (3 * l.whole ≤ length l.codes) × (last_result l.t l.last (asked_from l.codes l.whole l.n) ≡ last_result (fresh_table_of l.count).table 0 (asked_in l.whole l.codes))
 
 abbrev pub decreases-loop-n : goal.decreases-loop-n
-decreases-loop-n l = l.initial.last - l.n
+decreases-loop-n l = l.whole - l.n

@@ -14,7 +14,7 @@ use borrow.Author.Rules.{rules}
 use Rattle.quynhabet.proofs.stations.cells_of.Given as goal
 
 abbrev pub invariant-loop-k : goal.invariant-loop-k
-invariant-loop-k l = (l.k ≤ 16) × (l.tokens ≡ sets (replicate 16 no_slot) 0 (in_turn (λ j. slot_cell l.numbers j ∷ []) l.k)) × (l.initial.k ≡ sets (replicate 16 no_token) 0 (in_turn (λ j. token_cell l.numbers j ∷ []) l.k))
+invariant-loop-k l = (l.k ≤ 16) × (l.slots ≡ sets (replicate 16 no_slot) 0 (in_turn (λ j. slot_cell l.numbers j ∷ []) l.k)) × (l.tokens ≡ sets (replicate 16 no_token) 0 (in_turn (λ j. token_cell l.numbers j ∷ []) l.k))
 
 abbrev pub decreases-loop-k : goal.decreases-loop-k
 decreases-loop-k l = 16 - l.k

@@ -11,7 +11,7 @@ use borrow.Author.Rules.{rules}
 use Rattle.quynhabet.proofs.stations.put_slots.Given as goal
 
 abbrev pub invariant-loop-k : goal.invariant-loop-k
-invariant-loop-k l = (l.k ≤ 16) × (length l.initial.k ≡ 134) × (l.initial.k ≡ sets l.initial.numbers 6 (in_turn (slot_numbers_at l.numbers) l.k))
+invariant-loop-k l = (l.k ≤ 16) × (length l.numbers ≡ 134) × (l.numbers ≡ sets l.initial.numbers 6 (in_turn (slot_numbers_at l.s) l.k))
 
 abbrev pub decreases-loop-k : goal.decreases-loop-k
 decreases-loop-k l = 16 - l.k

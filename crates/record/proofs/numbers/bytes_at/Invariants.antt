@@ -7,7 +7,7 @@ use Rattle.record.proofs.Bytes.{read_none, read_more, room, grown}
 use Rattle.record.proofs.numbers.bytes_at.Given as goal
 
 abbrev pub invariant-loop-k : goal.invariant-loop-k
-invariant-loop-k l = (l.k ≤ l.size) × (l.initial.k ≡ number_at l.bytes l.at l.k) × (l.initial.k < 256 ^ l.k)
+invariant-loop-k l = (l.k ≤ l.size) × (l.x ≡ number_at l.bytes l.at l.k) × (l.x < 256 ^ l.k)
 
 abbrev pub decreases-loop-k : goal.decreases-loop-k
 decreases-loop-k l = l.size - l.k

@@ -10,7 +10,7 @@ use Rattle.record.proofs.numbers.put_number.Given as goal
 
 -- what is still to be stored, stored now, gives the end result
 abbrev pub invariant-loop-k : goal.invariant-loop-k
-invariant-loop-k l = (l.k ≤ l.at) × (length l.rest ≡ length l.initial.buffer) × (sets l.rest l.buffer (big l.k l.initial.k) ≡ sets l.initial.buffer l.buffer (big l.at l.size))
+invariant-loop-k l = (l.k ≤ l.size) × (length l.buffer ≡ length l.initial.buffer) × (sets l.buffer l.at (big l.k l.rest) ≡ sets l.initial.buffer l.at (big l.size l.x))
 
 abbrev pub decreases-loop-k : goal.decreases-loop-k
 decreases-loop-k l = l.k

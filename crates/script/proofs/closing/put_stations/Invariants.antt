@@ -9,7 +9,7 @@ use Rattle.script.proofs.Closings.{length_stations, no_stations, station_turn, s
 use Rattle.script.proofs.closing.put_stations.Given as goal
 
 abbrev pub invariant-loop-k : goal.invariant-loop-k
-invariant-loop-k l = (l.k ≤ l.out.count) × (length l.next ≡ length l.initial.out) × (l.initial.k ≡ 0 + length (station_lines l.out l.k)) × (l.next ≡ sets l.initial.out 0 (station_lines l.out l.k))
+invariant-loop-k l = (l.k ≤ l.t.count) × (length l.out ≡ length l.initial.out) × (l.next ≡ 0 + length (station_lines l.t l.k)) × (l.out ≡ sets l.initial.out 0 (station_lines l.t l.k))
 
 abbrev pub decreases-loop-k : goal.decreases-loop-k
-decreases-loop-k l = l.out.count - l.k
+decreases-loop-k l = l.t.count - l.k

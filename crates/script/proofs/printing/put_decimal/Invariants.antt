@@ -10,7 +10,7 @@ use Rattle.script.proofs.printing.put_decimal.Given as goal
 
 -- what is still to be stored, stored now, gives the end result
 abbrev pub invariant-loop-rest : goal.invariant-loop-rest
-invariant-loop-rest l = (l.initial.k ≤ l.at) × (length l.rest ≡ length l.initial.out) × (l.k ≡ length (decimal l.initial.k)) × (sets l.rest l.out (decimal l.initial.k) ≡ sets l.initial.out l.out (decimal l.at))
+invariant-loop-rest l = (l.rest ≤ l.n) × (length l.out ≡ length l.initial.out) × (l.k ≡ length (decimal l.rest)) × (sets l.out l.at (decimal l.rest) ≡ sets l.initial.out l.at (decimal l.n))
 
 abbrev pub decreases-loop-rest : goal.decreases-loop-rest
-decreases-loop-rest l = l.initial.k
+decreases-loop-rest l = l.rest

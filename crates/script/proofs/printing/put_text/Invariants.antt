@@ -10,7 +10,7 @@ use Rattle.script.proofs.printing.put_text.Given as goal
 
 -- what is still to be stored, stored now, gives the end result
 abbrev pub invariant-loop-k : goal.invariant-loop-k
-invariant-loop-k l = (l.k ≤ length l.at) × (length l.initial.k ≡ length l.initial.out) × (sets l.initial.k (l.out + l.k) (drop l.k l.at) ≡ sets l.initial.out l.out l.at)
+invariant-loop-k l = (l.k ≤ length l.text) × (length l.out ≡ length l.initial.out) × (sets l.out (l.at + l.k) (drop l.k l.text) ≡ sets l.initial.out l.at l.text)
 
 abbrev pub decreases-loop-k : goal.decreases-loop-k
-decreases-loop-k l = length l.at - l.k
+decreases-loop-k l = length l.text - l.k

@@ -10,7 +10,7 @@ use Rattle.script.proofs.Digits.{digit_range, digits_on, digits_off, digits_ende
 use Rattle.script.proofs.words.digits_of.Given as goal
 
 abbrev pub invariant-loop-k : goal.invariant-loop-k
-invariant-loop-k l = (l.k ≤ length l.word) × (digits_of l.initial.k (drop l.k l.word) ≡ digits_of 0 l.word) × (l.initial.k < 10 ^ l.k)
+invariant-loop-k l = (l.k ≤ length l.word) × (digits_of l.sofar (drop l.k l.word) ≡ digits_of 0 l.word) × (l.sofar < 10 ^ l.k)
 
 abbrev pub decreases-loop-k : goal.decreases-loop-k
 decreases-loop-k l = length l.word - l.k

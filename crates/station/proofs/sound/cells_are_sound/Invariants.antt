@@ -8,7 +8,7 @@ use Rattle.ground.proofs.Below.{all_none, all_more}
 use Rattle.station.proofs.sound.cells_are_sound.Given as goal
 
 abbrev pub invariant-loop-k : goal.invariant-loop-k
-invariant-loop-k l = (l.k ≤ 16) × (l.initial.k ≡ all_below (cells_sound l.s) l.k)
+invariant-loop-k l = (l.k ≤ 16) × (l.sound ≡ all_below (cells_sound l.s) l.k)
 
 abbrev pub decreases-loop-k : goal.decreases-loop-k
 decreases-loop-k l = 16 - l.k

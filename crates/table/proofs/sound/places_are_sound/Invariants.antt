@@ -15,7 +15,7 @@ abbrev test : List Place → ℕ → ℕ → Bool
 test pool count p = place_sound (place_in pool p) count
 
 abbrev pub invariant-loop-p : goal.invariant-loop-p
-invariant-loop-p l = (l.p ≤ 64) × (l.initial.p ≡ all_below (test l.pool l.count) l.p)
+invariant-loop-p l = (l.p ≤ 64) × (l.sound ≡ all_below (test l.pool l.count) l.p)
 
 abbrev pub decreases-loop-p : goal.decreases-loop-p
 decreases-loop-p l = 64 - l.p

@@ -15,7 +15,7 @@ abbrev test : List Station → ℕ → ℕ → Bool
 test stations count k = seat_sound (station_in stations k) k count
 
 abbrev pub invariant-loop-k : goal.invariant-loop-k
-invariant-loop-k l = (l.k ≤ 16) × (l.initial.k ≡ all_below (test l.stations l.count) l.k)
+invariant-loop-k l = (l.k ≤ 16) × (l.sound ≡ all_below (test l.stations l.count) l.k)
 
 abbrev pub decreases-loop-k : goal.decreases-loop-k
 decreases-loop-k l = 16 - l.k

@@ -15,7 +15,7 @@ abbrev value : Table → ℕ → ℕ
 value t k = (station_at t k).value
 
 abbrev pub invariant-loop-k : goal.invariant-loop-k
-invariant-loop-k l = (l.k ≤ l.t.count) × (l.initial.k ≡ sum_below (value l.t) l.k) × (l.initial.k ≤ most_value * l.k)
+invariant-loop-k l = (l.k ≤ l.t.count) × (l.sum ≡ sum_below (value l.t) l.k) × (l.sum ≤ most_value * l.k)
 
 abbrev pub decreases-loop-k : goal.decreases-loop-k
 decreases-loop-k l = l.t.count - l.k

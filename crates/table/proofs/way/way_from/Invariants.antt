@@ -11,7 +11,7 @@ use Rattle.table.proofs.Sums.{between_small}
 use Rattle.table.proofs.way.way_from.Given as goal
 
 abbrev pub invariant-loop-j : goal.invariant-loop-j
-invariant-loop-j l = (l.j ≤ l.t.count) × (l.initial.j ≡ sum_below (between l.t l.i) l.j) × (l.initial.j ≤ most_value * l.j)
+invariant-loop-j l = (l.j ≤ l.t.count) × (l.sum ≡ sum_below (between l.t l.i) l.j) × (l.sum ≤ most_value * l.j)
 
 abbrev pub decreases-loop-j : goal.decreases-loop-j
 decreases-loop-j l = l.t.count - l.j

@@ -10,7 +10,7 @@ use Rattle.ground.proofs.Sums.{sum_none, sum_more}
 use Rattle.table.proofs.way.way_of_all.Given as goal
 
 abbrev pub invariant-loop-i : goal.invariant-loop-i
-invariant-loop-i l = (l.i ≤ l.t.count) × (l.initial.i ≡ sum_below (way_from l.t) l.i) × (l.initial.i ≤ most_value * most_stations * l.i)
+invariant-loop-i l = (l.i ≤ l.t.count) × (l.sum ≡ sum_below (way_from l.t) l.i) × (l.sum ≤ most_value * most_stations * l.i)
 
 abbrev pub decreases-loop-i : goal.decreases-loop-i
 decreases-loop-i l = l.t.count - l.i
