@@ -15,22 +15,22 @@ pub overflow_add-first : goal.overflow_add-first
 overflow_add-first c = omega (arith, c.requires.2)
 
 pub overflow_mul-k : goal.overflow_mul-k
-overflow_mul-k c = omega (arith, c.requires.0, c.well-formed)
+overflow_mul-k c = omega (arith, c.requires.0, c.well_formed)
 
 pub offset_bounds-told-k : goal.offset_bounds-told-k
-offset_bounds-told-k c = omega (arith, c.requires.0, c.well-formed)
+offset_bounds-told-k c = omega (arith, c.requires.0, c.well_formed)
 
 pub bounds-told-k : goal.bounds-told-k
 bounds-told-k c = omega (arith, c.requires.0)
 
 pub overflow_mul-k-in-loop-k : goal.overflow_mul-k-in-loop-k
-overflow_mul-k-in-loop-k c = omega (arith, c.requires.0, c.well-formed)
+overflow_mul-k-in-loop-k c = omega (arith, c.requires.0, c.well_formed)
 
 pub overflow_add-k : goal.overflow_add-k
-overflow_add-k c = omega (arith, c.requires.0, c.well-formed)
+overflow_add-k c = omega (arith, c.requires.0, c.well_formed)
 
 pub offset_bounds-told-k-in-loop-k : goal.offset_bounds-told-k-in-loop-k
-offset_bounds-told-k-in-loop-k c = omega (arith, c.requires.0, c.well-formed)
+offset_bounds-told-k-in-loop-k c = omega (arith, c.requires.0, c.well_formed)
 
 pub bounds-told-k-in-loop-k : goal.bounds-told-k-in-loop-k
 bounds-told-k-in-loop-k c = omega (arith, c.requires.0)
