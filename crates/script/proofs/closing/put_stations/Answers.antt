@@ -1,10 +1,8 @@
 use native.Mathlib.Omega.{arith}
 use borrow.Author.Rules.{rules}
-use Prim.Native.Nat.{◌+◌, ◌-◌, ◌≤◌}
 use mathlib.Core.Path.{◌≡◌, refl, ap, ◌∙◌}
 use lib.ListN.{length}
-use lib.Seq.{sets, length-sets}
-use Rattle.script.specs.Script.{station_lines}
+use lib.Seq.{length-sets}
 use Rattle.script.proofs.Closings.{length_stations, no_stations, station_turn, stations_put}
 use Rattle.script.proofs.closing.put_stations.Goals as goal
 

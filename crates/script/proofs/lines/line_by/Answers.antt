@@ -1,5 +1,4 @@
-use mathlib.Core.Path.{◌≡◌, sym, ◌∙◌}
-use borrow.Author.Rules.{rules}
+use mathlib.Core.Path.{sym, ◌∙◌}
 use Rattle.steps.specs.declared.asked.Step.TheVariants.{Add, Draw, Send}
 use Rattle.script.specs.Lines.{word_add, word_draw, word_send, word_deliver, word_lose}
 use Rattle.script.proofs.Asked.{asks_none, asks_two, word_is}

@@ -1,7 +1,3 @@
-use mathlib.Core.Path.{◌≡◌}
-use borrow.Author.Rules.{rules}
-use Rattle.script.specs.declared.words.Numeral.TheVariants.{Reads}
-use Rattle.script.specs.Words.{numeral_of, up_to}
 use Rattle.script.proofs.Asked.{read_part}
 use Rattle.script.proofs.lines.pair_of.Goals as goal
 

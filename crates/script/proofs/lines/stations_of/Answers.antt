@@ -1,5 +1,4 @@
 use mathlib.Core.Path.{sym, ◌∙◌}
-use borrow.Author.Rules.{rules}
 use Rattle.script.specs.Lines.{stations_of}
 use Rattle.script.proofs.lines.stations_of.Goals as goal
 

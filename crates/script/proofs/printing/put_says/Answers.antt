@@ -1,6 +1,5 @@
 use mathlib.Core.List.{[], ◌∷◌, ◌++◌, append_assoc}
 use native.Mathlib.Omega.{arith}
-use borrow.Author.Rules.{rules}
 use Rattle.script.specs.Decimal.{decimal}
 use Rattle.script.proofs.Decimals.{length_decimal}
 use Rattle.script.proofs.Puts.{both}

@@ -1,6 +1,5 @@
 use mathlib.Core.List.{[], ◌∷◌, ◌++◌}
 use native.Mathlib.Omega.{arith}
-use borrow.Author.Rules.{rules}
 use Rattle.script.specs.Decimal.{decimal, station_word, value_word, source_word, destination_word}
 use Rattle.script.proofs.Decimals.{length_decimal}
 use Rattle.script.proofs.Puts.{both}

@@ -1,9 +1,8 @@
-use borrow.Author.Rules.{rules}
 use native.Mathlib.Omega.{arith}
-use Prim.Native.Nat.{◌+◌, ◌-◌, ◌≤◌}
-use mathlib.Core.Path.{◌≡◌, refl, ap, ◌∙◌}
+use Prim.Native.Nat.{◌+◌}
+use mathlib.Core.Path.{refl, ap, ◌∙◌}
 use lib.ListN.{length}
-use lib.Seq.{sets, length-sets}
+use lib.Seq.{length-sets}
 use Rattle.script.specs.Telling.{lines_of_told}
 use Rattle.script.proofs.Tells.{all_said, said_none, said_short, said_turn}
 use Rattle.script.proofs.telling.put_told.Goals as goal

@@ -1,11 +1,6 @@
-use Prim.Native.Nat.{ℕ, ◌≤◌, ◌<◌, ◌-◌, ◌^◌}
-use mathlib.Core.Path.{◌≡◌, refl, sym, ◌∙◌}
+use mathlib.Core.Path.{refl, sym, ◌∙◌}
 use native.Mathlib.Omega.{arith}
-use borrow.Author.Rules.{rules}
-use borrow.Author.Tests.{not-true, not-false}
-use lib.ListN.{length, drop, get_or}
-use Rattle.script.specs.Words.{is_digit}
-use Rattle.script.specs.Parts.{digits_of}
+use lib.ListN.{get_or}
 use Rattle.script.proofs.Digits.{digit_range, digits_on, digits_off, digits_ended, room, grown}
 use Rattle.script.proofs.words.digits_of.Goals as goal
 
