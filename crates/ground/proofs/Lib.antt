@@ -7,4 +7,3 @@ pub mod Stores
 pub mod InTurn
 pub mod Refusing
 pub mod Onward
-pub mod Halves

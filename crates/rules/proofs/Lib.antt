@@ -1,5 +1,3 @@
 pub mod Signed
-pub mod Ruling
-pub mod InOrder
 pub mod Refusing
 pub mod Spent

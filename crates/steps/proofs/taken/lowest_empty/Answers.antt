@@ -15,9 +15,6 @@ use Rattle.steps.proofs.taken.lowest_empty.Goals as goal
 abbrev test : List ℕ → ℕ → Bool
 test taken p = eqb (get_or taken p 0) 0
 
-pub loop-p-init : goal.loop-p-init
-loop-p-init c = (search rules, refl)
-
 pub loop-p-preserved : goal.loop-p-preserved
 loop-p-preserved c =
     let at = c.loop-p in

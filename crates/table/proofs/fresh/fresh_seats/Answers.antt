@@ -13,6 +13,3 @@ loop-k-init c = (search rules, rw c.blank_station-none.ensures)
 pub loop-k-preserved : goal.loop-k-preserved
 unfolding seats_to
 loop-k-preserved c = let at = c.loop-k in (omega arith, rw (at.invariant.1, c.blank_station.ensures, add-one at.k))
-
-pub returns : goal.returns
-returns c = let at = c.loop-k in at.invariant.1 ∙ ap (seats_to c.args.count) (omega arith)

@@ -21,6 +21,3 @@ pub loop-p-preserved : goal.loop-p-preserved
 loop-p-preserved c =
     let at = c.loop-p in
     (omega arith, rw (c.place_is_sound-sound.ensures, at.invariant.1) (sym (all_more _ at.p)))
-
-pub returns : goal.returns
-returns c = c.loop-p.invariant.1 ∙ ap (all_below _) (omega arith)

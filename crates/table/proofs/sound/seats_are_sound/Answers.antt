@@ -21,6 +21,3 @@ pub loop-k-preserved : goal.loop-k-preserved
 loop-k-preserved c =
     let at = c.loop-k in
     (omega arith, rw (c.seat_is_sound-sound.ensures, at.invariant.1) (sym (all_more _ at.k)))
-
-pub returns : goal.returns
-returns c = c.loop-k.invariant.1 ∙ ap (all_below _) (omega arith)

@@ -41,6 +41,3 @@ loop-k-preserved c =
     let at = c.loop-k in
     let v = (station_sound_lem t c.requires at.k c.loop-k-test.true).value in
     (omega arith, rw at.invariant.1 (sym (sum_more (value t) at.k)), omega (arith, v, at.invariant.2))
-
-pub returns : goal.returns
-returns c = let at = c.loop-k in at.invariant.1 ∙ ap (sum_below (value c.args.t)) (omega arith)

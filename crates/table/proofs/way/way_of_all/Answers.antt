@@ -12,9 +12,6 @@ use Rattle.table.proofs.way.way_of_all.Goals as goal
 pub loop-i-init : goal.loop-i-init
 loop-i-init c = (search rules, sym (sum_none _), search rules)
 
-pub way_from-sum-requires : goal.way_from-sum-requires
-way_from-sum-requires c = (c.requires, c.loop-i-test.true)
-
 pub overflow_add-sum : goal.overflow_add-sum
 overflow_add-sum c =
     let m = (table_parts c.args.t c.requires).most in
@@ -27,6 +24,3 @@ loop-i-preserved c =
       rw (at.invariant.1, c.way_from-sum.ensures.0) (sym (sum_more (way_from c.args.t) at.i)),
       omega (arith, c.way_from-sum.ensures.1, at.invariant.2),
     )
-
-pub returns : goal.returns
-returns c = let at = c.loop-i in at.invariant.1 ∙ ap (sum_below (way_from c.args.t)) (omega arith)
