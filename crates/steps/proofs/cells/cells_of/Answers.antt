@@ -1,9 +1,7 @@
-use Prim.Native.Nat.{ℕ, ◌-◌, ◌/◌, ◌%◌, ◌<◌, ◌≤◌}
-use mathlib.Core.Path.{◌≡◌, refl, sym, ◌∙◌, ap}
-use mathlib.Core.Logic.{⊎_elim}
+use Prim.Native.Nat.{◌/◌, ◌%◌}
+use mathlib.Core.Path.{◌≡◌, sym, ◌∙◌, ap}
 use native.Mathlib.Omega.{arith}
-use borrow.Author.Rules.{rules}
-use lib.ListN.{length, get_or, length-set}
+use lib.ListN.{length-set}
 use lib.Seq.{ext_get_or}
 use Rattle.table.specs.Table.{station_in}
 use Rattle.steps.specs.Cells.{cells_for, cells_of}

@@ -1,8 +1,5 @@
 use mathlib.Core.Path.{sym, ◌∙◌}
-use native.Mathlib.Omega.{arith}
-use borrow.Author.Tests.{not-true, not-false}
 use Rattle.steps.proofs.Ran.{ran_refused, ran_done}
-use borrow.Author.Rules.{rules}
 use Rattle.steps.proofs.running.run.Goals as goal
 
 pub returns-then-not-table_is_sound : goal.returns-then-not-table_is_sound

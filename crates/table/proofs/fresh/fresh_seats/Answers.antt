@@ -1,7 +1,5 @@
-use mathlib.Core.Path.{◌≡◌, ap, ◌∙◌}
 use native.Mathlib.Omega.{arith}
 use borrow.Author.Rules.{rules}
-use Prim.Native.Nat.{◌≤◌, ◌-◌}
 use native.Mathlib.Numerals.{add-one}
 use Rattle.table.specs.Fresh.{seats_to}
 use Rattle.table.proofs.fresh.fresh_seats.Goals as goal

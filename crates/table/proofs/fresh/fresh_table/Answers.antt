@@ -1,9 +1,5 @@
 use mathlib.Core.Path.{sym, ◌∙◌}
-use lib.Dec.{leb}
-use borrow.Author.Tests.{not-true, not-false, leb-true}
-use Rattle.ground.proofs.Tests.{both_hold}
 use Rattle.table.specs.Fresh.{fresh_table_of}
-use borrow.Author.Rules.{rules}
 use Rattle.table.proofs.fresh.fresh_table.Goals as goal
 
 pub returns-then-not-count_is_sound : goal.returns-then-not-count_is_sound

@@ -1,9 +1,8 @@
-use mathlib.Core.Path.{◌≡◌, ap, sym, ◌∙◌}
+use mathlib.Core.Path.{sym}
 use native.Mathlib.Omega.{arith}
 use borrow.Author.Rules.{rules}
-use Prim.Native.Nat.{ℕ, ◌≤◌, ◌-◌}
+use Prim.Native.Nat.{ℕ}
 use mathlib.Core.Bool.{Bool}
-use Rattle.ground.specs.Below.{all_below}
 use mathlib.Core.List.{List}
 use Rattle.station.specs.declared.station.Station.{Station}
 use Rattle.ground.proofs.Below.{all_none, all_more}
