@@ -7,3 +7,4 @@ pub mod Stores
 pub mod InTurn
 pub mod Refusing
 pub mod Onward
+pub mod Halves

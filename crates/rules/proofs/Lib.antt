@@ -1,3 +1,5 @@
 pub mod Signed
+pub mod Ruling
+pub mod InOrder
 pub mod Refusing
 pub mod Spent
