@@ -13,7 +13,7 @@ loop-n-preserved c =
     let asked = c.asked_by-asked.result in
     let next = result_next at.t at.last c.args.codes.now asked (asked_step at.t asked) c.loop-n-test.true at.invariant.2 c.asked_by-asked.ensures refl in
     elim c.match-asked.branch [
-      in-NoStep w ↦ (omega arith, at.invariant.1, rw (w.t-is, w.last-is) (rw w.in-NoStep.is at next))
+      | in-NoStep w ↦ (omega arith, at.invariant.1, rw (w.t-is, w.last-is) (rw w.in-NoStep.is at next))
       | in-OneStep w ↦ (
         omega arith,
         at.invariant.1,
