@@ -48,7 +48,7 @@ at_four numbers at (suc (suc (suc (suc j)))) h = absurd (omega arith)
 -- what is not held is four zeros, so that no other four numbers fit
 zeros : (s d q : ℕ) → (eqb s 0 && eqb d 0 && eqb q 0) ≡ true → (s ≡ 0) × (d ≡ 0) × (q ≡ 0)
 zeros s d q e = (
-  eqb-true _ _ (needed (eqb s 0) (λ t. simp (t, and-false) at e)),
+  eqb-true _ _ (needed (eqb s 0) (λ t. simp t at e)),
   eqb-true _ _ (needed (eqb d 0) (λ t. simp (t, and-false) at e)),
   eqb-true _ _ (needed (eqb q 0) (λ t. simp (t, and-false) at e)),
 )

@@ -1,5 +1,5 @@
-// What C and Rust call. The numbers that are lent are copied, the work is done on the copy, and
-// what comes of it is stored in one step.
+// What C and Rust call, through the crate quynhabet_c. The numbers that are lent are copied, the work
+// is done on the copy, and what comes of it is stored in one step.
 ghost use Rattle.std.specs.Prelude.{◌≡◌};
 ghost use Rattle.quynhabet.specs.Exports.{Makes, check_of, Adds, Draws, Shows, Receives, Reads, WritesNumbers};
 
@@ -22,6 +22,7 @@ pub fn qb_station_fresh(number: u64, count: u64, station: &mut [u64; 134]) -> To
 }
 
 // Whether the numbers are a sound station: refused by 1.
+#[tactic(auto, unfolding(crate::specs::Exports::check_of))]
 pub fn qb_station_check(station: &[u64; 134]) -> ToldNumbers
     ensures { result ≡ check_of station.now }
 {
@@ -58,6 +59,7 @@ pub fn qb_station_draw(station: &mut [u64; 134], amount: u64) -> ToldNumbers
 }
 
 // Writes the station's message for another station as a record: refused by 1, 2, 3, 14.
+#[tactic(auto, using(crate::proofs::Giving::gives_written), unfolding(crate::specs::Exports::show_by))]
 pub fn qb_station_write(station: &[u64; 134], to: u64, out: &mut [u8]) -> ToldNumbers
     ensures { Shows station.now to out.old result out.new }
 {
@@ -92,6 +94,7 @@ pub fn qb_record_read(bytes: &[u8], message: &mut [u64; 13]) -> ToldNumbers
 }
 
 // Writes a message as a record: refused by 9, 14.
+#[tactic(auto, using(crate::proofs::Giving::gives_written), unfolding(crate::specs::Exports::write_by))]
 pub fn qb_record_write(message: &[u64; 13], out: &mut [u8]) -> ToldNumbers
     ensures { WritesNumbers message.now out.old result out.new }
 {

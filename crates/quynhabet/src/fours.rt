@@ -65,6 +65,7 @@ pub(crate) fn clock_fits(clock: u64) -> bool
 }
 
 // Numbers too wide for their field, or not 0 in what is not held, are neither a slot nor a token.
+#[tactic(auto, unfolding(crate::specs::Layout::four_fits))]
 pub(crate) fn four_fits(f: Four) -> bool
     ensures { result ≡ four_fits f }
 {

@@ -6,6 +6,7 @@ use crate::fours::{clock_fits, four_at, four_fits, slot_four, slot_of, token_fou
 use ground::clocks::{DestinationClock, SourceClock};
 use rules::message::Message;
 
+#[tactic(auto, unfolding(crate::specs::Layout::message_fits))]
 pub(crate) fn message_fits(numbers: [u64; 13]) -> bool
     ensures { result ≡ message_fits numbers }
 {
@@ -15,6 +16,7 @@ pub(crate) fn message_fits(numbers: [u64; 13]) -> bool
     clocks & (four_fits(slot) & four_fits(token))
 }
 
+#[tactic(auto, using(crate::proofs::Fitting::message_fits_lem), unfolding(crate::specs::Layout::message_of))]
 pub(crate) fn message_of(numbers: [u64; 13]) -> Message
     requires { message_fits numbers ≡ true }
     ensures { result ≡ message_of numbers }
@@ -32,6 +34,7 @@ pub(crate) fn message_of(numbers: [u64; 13]) -> Message
     }
 }
 
+#[tactic(auto, unfolding(crate::specs::Layout::message_numbers))]
 pub(crate) fn message_numbers(m: Message) -> [u64; 13]
     ensures { result ≡ message_numbers m }
 {

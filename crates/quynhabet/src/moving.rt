@@ -46,12 +46,14 @@ fn unfit(numbers: [u64; 134]) -> Moved
     }
 }
 
+#[tactic(auto, unfolding(crate::specs::Exports::fresh_by))]
 pub(crate) fn fresh_by(number: u64, count: u64, numbers: [u64; 134]) -> Moved
     ensures { Gives (fresh_by number count numbers) result.told result.numbers }
 {
     settle(station::fresh(number, count), numbers)
 }
 
+#[tactic(auto, unfolding(crate::specs::Exports::add_by))]
 pub(crate) fn add_by(amount: u64, numbers: [u64; 134]) -> Moved
     ensures { Gives (add_by amount numbers) result.told result.numbers }
 {
@@ -61,6 +63,7 @@ pub(crate) fn add_by(amount: u64, numbers: [u64; 134]) -> Moved
     settle(station::add(station_of(numbers), amount), numbers)
 }
 
+#[tactic(auto, unfolding(crate::specs::Exports::draw_by))]
 pub(crate) fn draw_by(amount: u64, numbers: [u64; 134]) -> Moved
     ensures { Gives (draw_by amount numbers) result.told result.numbers }
 {
@@ -70,6 +73,7 @@ pub(crate) fn draw_by(amount: u64, numbers: [u64; 134]) -> Moved
     settle(station::draw(station_of(numbers), amount), numbers)
 }
 
+#[tactic(auto, unfolding(crate::specs::Exports::receive_by))]
 pub(crate) fn receive_by(bytes: &[u8], numbers: [u64; 134]) -> Moved
     ensures { Gives (receive_by bytes.now numbers) result.told result.numbers }
 {
@@ -79,6 +83,7 @@ pub(crate) fn receive_by(bytes: &[u8], numbers: [u64; 134]) -> Moved
     settle(record::receive_bytes(station_of(numbers), bytes), numbers)
 }
 
+#[tactic(auto, unfolding(crate::specs::Exports::read_by))]
 pub(crate) fn read_by(bytes: &[u8], numbers: [u64; 13]) -> Taken
     ensures { Gives (read_by bytes.now numbers) result.told result.numbers }
 {

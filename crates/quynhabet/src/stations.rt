@@ -34,6 +34,7 @@ fn cells_fit(numbers: [u64; 134]) -> bool
     fit
 }
 
+#[tactic(auto, unfolding(crate::specs::Layout::station_fits))]
 pub(crate) fn station_fits(numbers: [u64; 134]) -> bool
     ensures { result ≡ station_fits numbers }
 {
@@ -68,6 +69,7 @@ fn cells_of(numbers: [u64; 134]) -> Cells
     Cells { slots, tokens }
 }
 
+#[tactic(auto, using(crate::proofs::Fitting::station_fits_lem), unfolding(crate::specs::Layout::station_of))]
 pub(crate) fn station_of(numbers: [u64; 134]) -> Station
     requires { station_fits numbers ≡ true }
     ensures { result ≡ station_of numbers }

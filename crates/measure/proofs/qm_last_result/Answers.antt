@@ -1,12 +1,10 @@
 use native.Mathlib.Omega.{arith}
-use mathlib.Core.Path.{◌≡◌, refl, ◌∙◌, ap}
-use Rattle.table.specs.declared.stepped.Stepped.{Stepped}
+use mathlib.Core.Path.{refl}
 use Rattle.steps.specs.Running.{asked_step}
 use Rattle.measure.proofs.Lasts.{result_next, result_ended}
 use Rattle.measure.proofs.qm_last_result.Goals.{in-NoStep, in-OneStep}
 use Rattle.measure.proofs.qm_last_result.Goals as goal
 
--- what was asked for was done
 pub loop-n-preserved : goal.loop-n-preserved
 loop-n-preserved c =
     let at = c.loop-n in

@@ -1,10 +1,7 @@
 use Prim.Native.Nat.{◌≤◌, ◌-◌}
-use mathlib.Core.Path.{◌≡◌, ap, sym, ◌∙◌}
-use native.Mathlib.Omega.{arith}
+use mathlib.Core.Path.{◌≡◌}
 use Rattle.ground.specs.Below.{all_below}
-use Rattle.ground.proofs.Below.{all_none, all_more}
 use Rattle.quynhabet.specs.Layout.{cells_fit}
-use borrow.Author.Rules.{rules}
 use Rattle.quynhabet.proofs.stations.cells_fit.Given as goal
 
 abbrev pub invariant-loop-k : goal.invariant-loop-k

@@ -1,8 +1,0 @@
-use borrow.Author.Rules.{rules}
-use Rattle.quynhabet.proofs.fours.token_four.Goals as goal
-
-pub returns-in_default : goal.returns-in_default
-returns-in_default c = rw c.in_default.is
-
-pub returns : goal.returns
-returns c = rw c.in-OneToken.is
