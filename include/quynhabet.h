@@ -2,7 +2,8 @@
  * quynhabet: one station that hands run passes to others by records, for C and C++.
  *
  * The functions are proved in Rattle and come as the archive libquynhabet.a, for x86-64.
- * Beside them it needs only memcpy, which the C library has. A call takes about 8 KiB of stack.
+ * Beside them it needs only memcpy and memset, which the C library has. A call takes at most 10 KiB
+ * of stack.
  * docs/FROM-C-AND-RUST.md has all of this at length.
  *
  * WHAT THE TRANSPORT OWES. A record arrives whole and unaltered, or not at all. A record has no
