@@ -1,10 +1,10 @@
 // The bench program: reads a script, hands it over, and writes what it gets.
 #![tactic(auto)]
 
-ghost use Rattle.std.specs.Prelude.{◌≡◌, length};
+ghost use Rattle.std.specs.Prelude.{◌≡◌, ◌≤◌, length, IfOk};
 
-use libc::{STDIN_FILENO, STDOUT_FILENO};
 use script::starting::Run;
+use std::io::{self, Read};
 
 // One byte more than the longest script, so that a longer one is seen.
 fn in_buffer() -> [u8; 65537]
@@ -19,40 +19,56 @@ fn out_buffer() -> [u8; 65536]
     [0; 65536]
 }
 
-// Writes the first bytes of a buffer.
-fn write_first(bytes: &[u8], size: usize) {
-    if size <= bytes.len() {
-        io::write_all(STDOUT_FILENO, &bytes[..size]);
+// Reads until the buffer is full or nothing more comes: how many bytes came.
+fn read_full(from: &mut impl Read, buffer: &mut [u8]) -> io::Result<usize>
+    ensures { IfOk result (λ size. size ≤ length buffer.new) }
+{
+    let mut size: usize = 0;
+    while size < buffer.len() {
+        let more = from.read(&mut buffer[size..])?;
+        if more == 0 {
+            break;
+        }
+        size += more;
     }
+    Ok(size)
+}
+
+// Writes the first bytes of a buffer.
+fn write_first(rt: &impl Print, bytes: &[u8], size: usize) -> io::Result<()> {
+    if size <= bytes.len() {
+        rt.write_all(&bytes[..size])?;
+    }
+    Ok(())
 }
 
 // Turn after turn until the run is finished. There are turns enough for the longest script.
-fn write_turns(input: &[u8], first: Run, out: &mut [u8]) {
+fn write_turns(rt: &impl Print, input: &[u8], first: Run, out: &mut [u8]) -> io::Result<()> {
     let mut run = first;
     let mut turns: usize = 0;
     while (turns < 65537) & !run.finished {
         let put = script::put_lines(input, run, out);
-        write_first(out, put.result as usize);
+        write_first(rt, out, put.result as usize)?;
         run = put.run;
         turns = turns + 1;
     }
+    Ok(())
 }
 
 // The line of a script that is refused, and else all that its run puts.
-fn write_output(input: &[u8], out: &mut [u8]) {
+fn write_output(rt: &impl Print, input: &[u8], out: &mut [u8]) -> io::Result<()> {
     let started = script::start(input);
     if started.answer != 0 {
         let put = script::put_answer(started.answer, out);
-        write_first(out, put.result as usize);
-        return;
+        return write_first(rt, out, put.result as usize);
     }
     let run = started.run;
-    write_turns(input, run, out);
+    write_turns(rt, input, run, out)
 }
 
-fn main() {
+fn main(rt: HostRuntime) -> io::Result<()> {
     let mut input = in_buffer();
     let mut output = out_buffer();
-    let size = io::read_full(STDIN_FILENO, &mut input);
-    write_output(&input[..size], &mut output);
+    let size = read_full(&mut rt.reader(), &mut input)?;
+    write_output(&rt, &input[..size], &mut output)
 }

@@ -64,7 +64,7 @@ pub fn lose_in(pool: &mut [Place], p: u64) -> Told
             result: 0,
         };
     }
-    // A number here, not the name: a cast is one step more in the proof by hand.
+    // The number of places, as a u64.
     if 64 <= p {
         return Told {
             answer: answers::NO_SUCH_PLACE,
@@ -92,7 +92,7 @@ pub struct Pooled {
     pub pool: [Place; MOST_PLACES],
 }
 
-// The two, made one by a call: so a proof by hand needs no law on the fields.
+// What is told and the pool, as one value.
 pub(crate) fn both(told: Told, pool: [Place; MOST_PLACES]) -> Pooled
     ensures { result ≡ record { told = told; pool = pool } }
 {

@@ -1,11 +1,12 @@
 -- What the code knows of a field that it looked for, as a step of the walk, for any line of any
 -- table. Assumes nothing.
-use Prim.Native.Nat.{ℕ, zero, suc, ◌+◌}
+use Prim.Native.Nat.{ℕ, zero, suc, ◌+◌, ◌≤◌}
 use mathlib.Core.Path.{◌≡◌, refl, ap, sym, subst, ◌∙◌}
 use mathlib.Core.Logic.{◌⊎◌, inl, inr}
 use mathlib.Core.List.{List, [], ◌∷◌, ◌++◌}
 use mathlib.Core.Bool.{Bool, true, false}
 use native.Mathlib.Omega.{arith}
+use lib.ListN.{length}
 use Rattle.record.specs.declared.fields.Cursor.{Cursor}
 use Rattle.record.specs.Faults.{unsound_number}
 use Rattle.record.specs.Fields.{Body, missing, body, Field, total}
@@ -90,6 +91,9 @@ module _ (bytes : List ℕ) (f : Field) (last : Bool) (at : ℕ) (c : Cursor) (i
 
       pub past : c.at ≡ at + 3 + total f.sizes
       past = at_is ∙ ap (λ (l : Look). (cursor_at at (total f.sizes) l).at) (found_seen there)
+
+      pub field_room : at + 3 + total f.sizes ≤ length bytes
+      field_room = stands.room
 
       module _ (before : List Body) (numbers : List ℕ) (read : numbers ≡ numbers_at bytes (at + 3) f.sizes) where
         -- its numbers are sound, or are not

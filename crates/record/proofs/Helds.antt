@@ -1,11 +1,12 @@
 -- Fields 5 and 6 as the code reads them, and what the whole walk then comes to. Assumes nothing.
-use Prim.Native.Nat.{ℕ, zero, suc, ◌+◌}
+use Prim.Native.Nat.{ℕ, zero, suc, ◌+◌, ◌≤◌}
 use mathlib.Core.Path.{◌≡◌, refl, sym, ◌∙◌}
 use mathlib.Core.Logic.{◌⊎◌, inl, inr}
 use mathlib.Core.List.{List, [], ◌∷◌, ◌++◌}
 use mathlib.Core.Bool.{Bool, true, false, ◌||◌, not}
 use native.Mathlib.Omega.{arith}
 use lib.Dec.{eqb}
+use lib.ListN.{length}
 use borrow.Author.Tests.{eqb-true, eqb-false}
 use Rattle.ground.specs.declared.clocks.SourceClock.{SourceClock}
 use Rattle.ground.specs.declared.clocks.DestinationClock.{DestinationClock}
@@ -18,12 +19,11 @@ use Rattle.station.specs.Sound.{slot_sound, token_sound}
 use Rattle.record.specs.declared.fields.Cursor.{Cursor}
 use Rattle.record.specs.Faults.{unsound_number}
 use Rattle.record.specs.Numbers.{number_at}
-use Rattle.record.specs.Fields.{Body, missing, Field, number_of}
+use Rattle.record.specs.Fields.{Body, missing, Field, number_of, total}
 use Rattle.record.specs.Walk.{going, stopped, numbers_at, step}
 use Rattle.record.specs.Dateless.{slot_field, token_field, slot_body, token_body}
 use Rattle.record.specs.Reading.{stood, line_for, next_of}
-use Rattle.record.proofs.Looks.{Here}
-use Rattle.record.proofs.Cursors.{stood_stops, stood_goes, faulted, missed, stands, took, refused}
+use Rattle.record.proofs.Cursors.{stood_stops, stood_goes, faulted, missed, field_room, took, refused}
 
 -- the numbers of a slot's or a token's field, as the code reads them
 abbrev pub Three : List ℕ → ℕ → ℕ → ℕ → ℕ → Type 0
@@ -45,6 +45,13 @@ on_both n p at e =
     by_test (eqb n 0) (λ z. let f : eqb p at ≡ false = rw z at e in (eqb-true n 0 z, eqb-false p at f))
     (λ z. let f : true ≡ false = rw z at e in let w : ◌≡◌ {A = ℕ} 0 1 = cc in absurd (omega arith))
 
+-- where the code has found the field, the whole of it is there
+pub held_room : (bytes : List ℕ) (f : Field) (last : Bool) (at : ℕ) (c : Cursor) → c ≡ next_of bytes at (line_for f last) → (not (eqb c.answer 0) || eqb c.at at) ≡ false
+    → at + 3 + total f.sizes ≤ length bytes
+held_room bytes f last at c is e =
+    let on = on_both c.answer c.at at e in
+    field_room bytes f last at c is on.0 (inr on.1)
+
 -- a field that may be missing and is a fault, or missing
 module _ (bytes : List ℕ) (f : Field) (last : Bool) (at : ℕ) (c : Cursor) (is : c ≡ next_of bytes at (line_for f last)) where
   pub not_taken : (before : List Body) → (c.answer ≡ 0 → ⊥) ⊎ (c.at ≡ at) → step bytes f last (going at before) ≡ stood c.answer c.at (before ++ (missing ∷ []))
@@ -55,9 +62,6 @@ module _ (bytes : List ℕ) (f : Field) (last : Bool) (at : ℕ) (c : Cursor) (i
     by (suc n) z = faulted bytes f last at c is before (λ w. omega arith) ∙ sym (stood_stops c.answer c.at _ (λ w. omega arith))
 
 module _ (bytes : List ℕ) (at : ℕ) (c : Cursor) (is : c ≡ next_of bytes at (line_for slot_field false)) (none : c.answer ≡ 0) (on : c.at ≡ at → ⊥) where
-  pub slot_here : Here bytes at 5 16
-  slot_here = stands bytes slot_field false at c is none (inr on)
-
   module _ (s d q : ℕ) (t : Three bytes at s d q) (clock : DestinationClock) (before : List Body) (shown : number_of before 3 1 ≡ clock.0) where
     abbrev slot : HeldSlot
     slot = OneSlot (record { source = record { 0 = s }; destination = record { 0 = d }; quantity = q })
@@ -69,9 +73,6 @@ module _ (bytes : List ℕ) (at : ℕ) (c : Cursor) (is : c ≡ next_of bytes at
     slot_taken e = took bytes slot_field false at c is none (inr on) before (s ∷ d ∷ q ∷ []) (three bytes at s d q t) (rw shown e)
 
 module _ (bytes : List ℕ) (at : ℕ) (c : Cursor) (is : c ≡ next_of bytes at (line_for token_field true)) (none : c.answer ≡ 0) (on : c.at ≡ at → ⊥) where
-  pub token_here : Here bytes at 6 16
-  token_here = stands bytes token_field true at c is none (inr on)
-
   module _ (s d q : ℕ) (t : Three bytes at s d q) (clock : SourceClock) (before : List Body) (shown : number_of before 3 0 ≡ clock.0) where
     abbrev token : HeldToken
     token = OneToken (record { source = record { 0 = s }; destination = record { 0 = d }; quantity = q })

@@ -10,7 +10,6 @@ pub mod Again
 pub mod Named
 pub mod Cursors
 pub mod Finding
-pub mod Lent
 pub mod Fronts
 pub mod Helds
 pub mod Whole

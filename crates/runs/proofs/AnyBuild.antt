@@ -71,7 +71,7 @@ module _ {build : Build} (each : EachStep build) where
       → let log = log_of build t steps in Reached (table_after build t steps) (H ++ history_of log) (plus + all_added log) (minus + all_drawn log)
   unfolding log_of table_after all_added all_drawn history_of
   run_reached [] {plus = plus} {minus = minus} r = rw (append-nil, add-zero plus, add-zero minus) r
-  run_reached (step ∷ steps) r = rw (append_assoc, add_assoc, add_assoc) at (run_reached steps (step_reached r step))
+  run_reached (step ∷ steps) r = simp (append_assoc, add_assoc) at (run_reached steps (step_reached r step))
 
   run_plain : (steps : List Step) {t : Table} {H : List (Entry ℕ)} {plus minus : ℕ} → Reached t H plus minus
       → (i : ℕ) (x : Line) → at (log_of build t steps) i ≡ some x → Plain x.answer

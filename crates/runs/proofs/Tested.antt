@@ -76,7 +76,7 @@ same_parts m n r u s v d w q z e f g h k = cc
 
 same : (x y : Transfer ℕ) → same_in x (some y) ≡ true → y ≡ x
 same x y e =
-    let a = equal x.maker y.maker ((λ g. simp (g, and-false) at e)) in
+    let a = equal x.maker y.maker ((λ g. simp g at e)) in
     let b = equal x.receiver y.receiver ((λ g. simp (g, and-false) at e)) in
     let c = equal x.token.source y.token.source ((λ g. simp (g, and-false) at e)) in
     let d = equal x.token.destination y.token.destination ((λ g. simp (g, and-false) at e)) in
@@ -106,7 +106,7 @@ unfolding answered_test at
 answered_tested [] e i x h = let z : ◌≡◌ {A = ℕ} 0 1 = cc in absurd (omega arith)
 answered_tested (y ∷ log) e zero x h =
     let same : y ≡ x = cc in
-    let a = unequal y.answer not_sound ((λ g. simp (g, and-false) at e)) in
+    let a = unequal y.answer not_sound ((λ g. simp g at e)) in
     let b = unequal y.answer value_limit ((λ g. simp (g, and-false) at e)) in
     rw (← same) (a, b)
 answered_tested (y ∷ log) e (suc i) x h = answered_tested log (needed (answered_test log) (λ g. simp (g, and-false) at e)) i x h
@@ -130,7 +130,7 @@ unfolding stale_test log_of history_of at
 stale_now build t [] e = λ i j k token waits n x h b. let z : ◌≡◌ {A = ℕ} 0 1 = cc in omega arith
 stale_now build t (step ∷ steps) e =
     let H = history_of (log_of build t (step ∷ steps)) in
-    never_tested t H (needed (never_lands_test t H) (λ g. simp (g, and-false) at e))
+    never_tested t H (needed (never_lands_test t H) (λ g. simp g at e))
 
 stale_tested : (build : Build) (t : Table) (steps : List Step) → stale_test build t steps ≡ true → says stale build t steps
 unfolding stale_test table_after

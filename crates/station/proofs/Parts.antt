@@ -35,14 +35,14 @@ unfolding station_sound
 station_parts s e =
     let cells = needed (all_below (cells_sound s) most_stations) (λ f. simp (f, and-false) at e) in
     record {
-      least = leb-true _ _ (needed (leb 2 s.count) (λ f. simp (f, and-false) at e));
+      least = leb-true _ _ (needed (leb 2 s.count) (λ f. simp f at e));
       most = leb-true _ _ (needed (leb s.count most_stations) (λ f. simp (f, and-false) at e));
       seat = ltb-true _ _ (needed (ltb s.number s.count) (λ f. simp (f, and-false) at e));
       value = leb-true _ _ (needed (leb s.value most_value) (λ f. simp (f, and-false) at e));
       intake = leb-true _ _ (needed (leb s.intake most_intake) (λ f. simp (f, and-false) at e));
       source = leb-true _ _ (needed (clock_sound s.source.0) (λ f. simp (f, and-false) at e));
       destination = leb-true _ _ (needed (clock_sound s.destination.0) (λ f. simp (f, and-false) at e));
-      slots = λ k h. needed (slot_sound (slot_for s k) s.destination) (λ f. simp (f, and-false) at (all_at (cells_sound s) most_stations k cells h));
+      slots = λ k h. needed (slot_sound (slot_for s k) s.destination) (λ f. simp f at (all_at (cells_sound s) most_stations k cells h));
       tokens = λ k h. needed (token_sound (token_for s k) s.source) (λ f. simp (f, and-false) at (all_at (cells_sound s) most_stations k cells h));
       peers =
           λ k h.
@@ -78,7 +78,7 @@ pub message_parts : (m : Message) → message_sound m ≡ true → SoundMessage 
 unfolding message_sound
 message_parts m e =
     record {
-      from = leb-true _ _ (needed (leb m.from 15) (λ f. simp (f, and-false) at e));
+      from = leb-true _ _ (needed (leb m.from 15) (λ f. simp f at e));
       to = leb-true _ _ (needed (leb m.to 15) (λ f. simp (f, and-false) at e));
       other = eqb-false _ _ (not-true _ (needed (not (eqb m.from m.to)) (λ f. simp (f, and-false) at e)));
       value = leb-true _ _ (needed (leb m.value most_value) (λ f. simp (f, and-false) at e));
@@ -90,8 +90,8 @@ message_parts m e =
 
 pub token_fits_lem : (h : HeldToken) (clock : SourceClock) → token_sound h clock ≡ true → TokenInRange h
 token_fits_lem NoToken clock e = tt
-token_fits_lem (OneToken t) clock e = leb-true _ _ (needed (leb t.quantity most_value) (λ f. simp (f, and-false) at e))
+token_fits_lem (OneToken t) clock e = leb-true _ _ (needed (leb t.quantity most_value) (λ f. simp f at e))
 
 pub token_small_lem : (h : HeldToken) (clock : SourceClock) → token_sound h clock ≡ true → token_small h ≡ true
 token_small_lem NoToken clock e = refl
-token_small_lem (OneToken t) clock e = needed (leb t.quantity most_value) (λ f. simp (f, and-false) at e)
+token_small_lem (OneToken t) clock e = needed (leb t.quantity most_value) (λ f. simp f at e)

@@ -38,6 +38,7 @@ module _ {A : Type 0} where
 
   pub each_at : (f : ℕ → A) (n i p : ℕ) (d : A) → p < n → get_or (each_from f n i) p d ≡ f (i + p)
   unfolding each_from
+  each_at f zero i p d h = absurd (omega arith)
   each_at f (suc n) i zero d h = rw add-zero
   each_at f (suc n) i (suc p) d h = each_at f n (i + 1) p d (omega arith) ∙ ap f (omega arith)
 

@@ -63,7 +63,7 @@ fn put_told(told: &mut [u64], at: usize, answer: u8, res: u64, report: Report)
 // The loop holds the table: a table is large, and a call copies what it is given. So no call in the
 // loop is given the table, and each step changes its one station or place right here. Which places
 // are taken and what the stations hold is kept beside it, to be looked at without a copy.
-fn run_sound_lem(t: Table, codes: &[u64], told: &mut [u64], steps: usize) -> Ran
+fn run_sound(t: Table, codes: &[u64], told: &mut [u64], steps: usize) -> Ran
     requires { (table_sound t ≡ true) × (3 * steps ≤ length codes.now) × (5 * steps ≤ length told.old) }
     ensures { (result ≡ ran_by t steps codes.now) × (told.new ≡ sets told.old 0 (all_told t (asked_in steps codes.now))) }
 {
@@ -134,5 +134,5 @@ pub fn run(t: Table, codes: &[u64], told: &mut [u64]) -> Ran
         };
     }
     let steps = smaller(codes.len() / 3, told.len() / 5);
-    run_sound_lem(t, codes, told, steps)
+    run_sound(t, codes, told, steps)
 }

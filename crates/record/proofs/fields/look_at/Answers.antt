@@ -1,6 +1,5 @@
 use mathlib.Core.Path.{sym, ◌∙◌}
 use native.Mathlib.Omega.{arith}
-use borrow.Author.Rules.{rules}
 use Rattle.record.proofs.Finding.{nothing_left, none, head_cut, another, gone, wrong_length, body_cut, whole}
 use Rattle.record.proofs.fields.look_at.Goals as goal
 
@@ -15,32 +14,27 @@ returns-then-left-lt3 c = head_cut _ _ _ _ _ _ (omega arith) (omega arith)
 
 pub returns-then-must-last : goal.returns-then-must-last
 returns-then-must-last c =
-    let told = c in
-    another _ _ _ _ _ _ (omega arith) (λ e. c.if-number_at-tag.true (told.number_at.ensures.0 ∙ e)) c.if-must-last.true
+    another _ _ _ _ _ _ (omega arith) (λ e. c.if-number_at-tag.true (c.number_at.ensures.number ∙ e)) c.if-must-last.true
 
 pub returns-then-number_at-tag : goal.returns-then-number_at-tag
 returns-then-number_at-tag c =
-    let told = c in
-    gone _ _ _ _ _ _ (omega arith) (λ e. c.if-number_at-tag.true (told.number_at.ensures.0 ∙ e)) c.if-must-last.false
+    gone _ _ _ _ _ _ (omega arith) (λ e. c.if-number_at-tag.true (c.number_at.ensures.number ∙ e)) c.if-must-last.false
 
 pub returns-then-number_at-size : goal.returns-then-number_at-size
 returns-then-number_at-size c =
-    let told = c in
-    wrong_length _ _ _ _ _ _ (omega arith) (sym told.number_at.ensures.0 ∙ c.if-number_at-tag.false)
-    (λ e. c.if-number_at-size.true (c.number_at-2.ensures.0 ∙ e))
+    wrong_length _ _ _ _ _ _ (omega arith) (sym c.number_at.ensures.number ∙ c.if-number_at-tag.false)
+    (λ e. c.if-number_at-size.true (c.number_at-2.ensures.number ∙ e))
 
 pub returns-then-left-size : goal.returns-then-left-size
 returns-then-left-size c =
-    let told = c in
-    body_cut _ _ _ _ _ _ (omega arith) (sym told.number_at.ensures.0 ∙ c.if-number_at-tag.false)
-    (sym c.number_at-2.ensures.0 ∙ c.if-number_at-size.false) (omega arith)
+    body_cut _ _ _ _ _ _ (omega arith) (sym c.number_at.ensures.number ∙ c.if-number_at-tag.false)
+    (sym c.number_at-2.ensures.number ∙ c.if-number_at-size.false) (omega arith)
 
 pub returns : goal.returns
 returns c =
-    let told = c in
     whole _ _ _ _ _ _
     (record {
-      tag_is = sym told.number_at.ensures.0 ∙ c.if-number_at-tag.false;
-      size_is = sym c.number_at-2.ensures.0 ∙ c.if-number_at-size.false;
+      tag_is = sym c.number_at.ensures.number ∙ c.if-number_at-tag.false;
+      size_is = sym c.number_at-2.ensures.number ∙ c.if-number_at-size.false;
       room = omega arith;
     })

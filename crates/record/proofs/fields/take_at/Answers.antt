@@ -1,6 +1,5 @@
 use mathlib.Core.Path.{sym, ◌∙◌}
 use native.Mathlib.Omega.{arith}
-use borrow.Author.Rules.{rules}
 use Rattle.record.specs.Reading.{next_of}
 use Rattle.record.proofs.Finding.{whole_here, whole}
 use Rattle.record.proofs.fields.take_at.Goals as goal

@@ -1,5 +1,4 @@
 use native.Mathlib.Omega.{arith}
-use borrow.Author.Rules.{rules}
 use Rattle.record.proofs.Finding.{too_short, tested}
 use Rattle.record.proofs.fields.whole_at.Goals as goal
 
@@ -13,4 +12,4 @@ pub returns-then-left-size : goal.returns-then-left-size
 returns-then-left-size c = too_short _ _ _ _ (omega arith)
 
 pub returns : goal.returns
-returns c = tested _ _ _ _ _ _ (omega arith) c.number_at.ensures.0 c.number_at-2.ensures.0
+returns c = tested _ _ _ _ _ _ (omega arith) c.number_at.ensures.number c.number_at-2.ensures.number

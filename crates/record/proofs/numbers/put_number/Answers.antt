@@ -1,23 +1,16 @@
-use Prim.Native.Nat.{◌-◌, ◌≤◌}
-use mathlib.Core.Path.{◌≡◌, refl, ◌∙◌}
+use Prim.Native.Nat.{◌-◌}
+use mathlib.Core.Path.{◌≡◌, ◌∙◌}
 use native.Mathlib.Omega.{arith}
-use lib.ListN.{length, length-set}
-use lib.Seq.{sets}
-use borrow.Author.Rules.{rules}
-use Rattle.record.specs.Numbers.{big}
 use Rattle.record.proofs.Bytes.{put_turn, put_none}
 use Rattle.record.proofs.numbers.put_number.Goals as goal
 
-pub loop-k-init : goal.loop-k-init
-loop-k-init c = (search rules, refl, refl)
-
 pub loop-k-preserved : goal.loop-k-preserved
 loop-k-preserved c =
-    let at = c.loop-k in (
-      omega arith,
-      rw length-set at.invariant.1,
-      put_turn at.buffer c.args.at (at.k - 1) at.k at.rest (omega arith) ∙ at.invariant.2,
-    )
+    let at = c.loop-k in
+    record {
+      within = omega arith;
+      put = put_turn at.buffer c.args.at (at.k - 1) at.k at.rest (omega arith) ∙ at.invariant.put;
+    }
 
 pub returns : goal.returns
-returns c = let at = c.loop-k in let e : at.k ≡ 0 = omega arith in put_none at.buffer c.args.at at.k at.rest e ∙ at.invariant.2
+returns c = let at = c.loop-k in let e : at.k ≡ 0 = omega arith in put_none at.buffer c.args.at at.k at.rest e ∙ at.invariant.put

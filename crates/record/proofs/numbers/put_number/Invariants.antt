@@ -1,16 +1,12 @@
-use Prim.Native.Nat.{◌-◌, ◌≤◌}
-use mathlib.Core.Path.{◌≡◌, refl, ◌∙◌}
-use native.Mathlib.Omega.{arith}
-use lib.ListN.{length, length-set}
+use Prim.Native.Nat.{◌≤◌}
+use mathlib.Core.Path.{◌≡◌}
 use lib.Seq.{sets}
-use borrow.Author.Rules.{rules}
 use Rattle.record.specs.Numbers.{big}
-use Rattle.record.proofs.Bytes.{put_turn, put_none}
 use Rattle.record.proofs.numbers.put_number.Given as goal
 
 -- what is still to be stored, stored now, gives the end result
 abbrev pub invariant-loop-k : goal.invariant-loop-k
-invariant-loop-k l = (l.k ≤ l.size) × (length l.buffer ≡ length l.initial.buffer) × (sets l.buffer l.at (big l.k l.rest) ≡ sets l.initial.buffer l.at (big l.size l.x))
+invariant-loop-k l = record { within : l.k ≤ l.size; put : sets l.buffer l.at (big l.k l.rest) ≡ sets l.initial.buffer l.at (big l.size l.x) }
 
 abbrev pub decreases-loop-k : goal.decreases-loop-k
 decreases-loop-k l = l.k

@@ -1,5 +1,4 @@
 use Prim.Native.Nat.{◌+◌}
-use borrow.Author.Rules.{rules}
 use Rattle.record.specs.Numbers.{big}
 use Rattle.ground.proofs.Stores.{then}
 use Rattle.record.proofs.Digits.{length_big}
@@ -7,8 +6,6 @@ use Rattle.record.proofs.putting.put_clocks.Goals as goal
 
 pub returns : goal.returns
 returns c =
-    let last = c in
-    let first = last in
-    let a = first.before.before.before.before.args in
-    then a.buffer.now a.at (a.at + 4) (big 4 a.source.0) (big 4 a.destination.0) _ _ first.put-number.ensures last.put_number-2.ensures
+    let a = c.args in
+    then a.buffer.now a.at (a.at + 4) (big 4 a.source.0) (big 4 a.destination.0) _ _ c.put_number.ensures c.put_number-2.ensures
     (simp length_big)

@@ -1,4 +1,3 @@
-use borrow.Author.Rules.{rules}
 use Rattle.record.proofs.Whole.{refusing, accepting}
 use Rattle.record.proofs.reading.read.Goals as goal
 

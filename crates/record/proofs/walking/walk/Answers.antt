@@ -1,4 +1,3 @@
-use borrow.Author.Rules.{rules}
 use Rattle.record.proofs.Whole.{front_stops, slot_stops, token_stops, more_bytes, all_read}
 use Rattle.record.proofs.walking.walk.Goals as goal
 

@@ -2,7 +2,6 @@ use Prim.Native.Nat.{◌+◌}
 use mathlib.Core.List.{◌++◌}
 use native.Mathlib.Omega.{arith}
 use lib.ListN.{length-append}
-use borrow.Author.Rules.{rules}
 use Rattle.record.specs.Writing.{front, slot_bytes, token_bytes}
 use Rattle.ground.proofs.Stores.{then}
 use Rattle.record.proofs.Digits.{length_big}

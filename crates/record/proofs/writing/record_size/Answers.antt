@@ -1,5 +1,4 @@
 use native.Mathlib.Omega.{arith}
-use borrow.Author.Rules.{rules}
 use Rattle.record.proofs.Lengths.{length_record}
 use Rattle.record.proofs.writing.record_size.Goals as goal
 

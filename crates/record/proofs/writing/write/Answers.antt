@@ -1,18 +1,11 @@
 use Prim.Native.Nat.{◌≤◌}
-use mathlib.Core.Path.{refl, sym, ◌∙◌}
+use mathlib.Core.Path.{sym, ◌∙◌}
 use native.Mathlib.Omega.{arith}
 use lib.ListN.{length}
-use borrow.Author.Tests.{not-true, not-false, lt-ltb, le-ltb}
-use borrow.Author.Rules.{rules}
+use borrow.Author.Tests.{le-ltb}
 use Rattle.record.specs.Dateless.{record_of}
 use Rattle.ground.proofs.Stores.{in_front_lem}
 use Rattle.record.proofs.writing.write.Goals as goal
-
-pub returns-then-not-message_is_sound : goal.returns-then-not-message_is_sound
-returns-then-not-message_is_sound c = rw (sym c.message_is_sound.ensures ∙ c.if-not-message_is_sound.true) (record { told = refl; buffer = refl })
-
-pub returns-then-buffer-size : goal.returns-then-buffer-size
-returns-then-buffer-size c = rw (sym c.message_is_sound.ensures ∙ c.if-not-message_is_sound.false, ← c.record_size-size.ensures, lt-ltb _ _ c.if-buffer-size.true) (record { told = refl; buffer = refl })
 
 pub returns : goal.returns
 returns c =

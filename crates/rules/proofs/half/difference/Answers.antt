@@ -2,7 +2,6 @@ use native.Mathlib.Omega.{arith}
 use mir.Facts.{to_z-of_z, to_z_pos}
 use mir.Syntax.{w64}
 use Rattle.rules.proofs.Signed.{difference_fits}
-use borrow.Author.Rules.{rules}
 use Rattle.rules.proofs.half.difference.Goals as goal
 
 pub overflow_sub-result : goal.overflow_sub-result

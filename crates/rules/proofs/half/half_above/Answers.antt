@@ -1,7 +1,6 @@
 use mathlib.Core.Path.{◌∙◌}
 use mir.Facts.{to_z-of_z}
 use Rattle.rules.proofs.Signed.{difference_fits}
-use borrow.Author.Rules.{rules}
 use Rattle.rules.proofs.half.half_above.Goals as goal
 
 pub returns : goal.returns

@@ -1,4 +1,3 @@
-use borrow.Author.Rules.{rules}
 use Rattle.rules.proofs.rules.clocks_agree.Goals as goal
 
 pub returns : goal.returns

@@ -1,6 +1,5 @@
 use mathlib.Core.Path.{◌∙◌}
 use Rattle.rules.proofs.Ruling.{spent_by_clock, spent_by_slot}
-use borrow.Author.Rules.{rules}
 use Rattle.rules.proofs.rules.is_spent.Goals as goal
 
 pub returns-in_default : goal.returns-in_default

@@ -1,8 +1,6 @@
 use mathlib.Core.Path.{sym, ◌∙◌}
 use native.Mathlib.Omega.{arith}
-use borrow.Author.Tests.{not-true, not-false}
 use Rattle.rules.proofs.Ruling.{fill_no_token, fill_no_slot, fill_other, fill_acts}
-use borrow.Author.Rules.{rules}
 use Rattle.rules.proofs.rules.rule1_fill.Goals as goal
 
 pub returns-in_default : goal.returns-in_default

@@ -1,7 +1,5 @@
 use mathlib.Core.Path.{◌∙◌}
-use borrow.Author.Tests.{not-true, not-false}
 use Rattle.rules.proofs.Ruling.{open_one_slot, open_other, open_acts}
-use borrow.Author.Rules.{rules}
 use Rattle.rules.proofs.rules.rule3_open_slot.Goals as goal
 
 pub returns-in_default : goal.returns-in_default
@@ -14,7 +12,7 @@ returns-then-not-h-before_end c =
     let a = c.args in
     c.rests_at-then-not-h-before_end.ensures
     ∙ open_other a.x a.m a.h c.in-NoSlot.is
-    (rw (← c-end.ensures) (c.if-not-h-before_end.true))
+    (rw (← c.before_end.ensures) (c.if-not-h-before_end.true))
 
 pub returns : goal.returns
 returns c =

@@ -3,7 +3,6 @@ use native.Mathlib.Omega.{arith}
 use Rattle.rules.specs.Stock.{add_to_answer, add_done, added_to}
 use Rattle.ground.proofs.Choices.{when_done, when_refused}
 use Rattle.rules.proofs.Refusing.{Added, added}
-use borrow.Author.Rules.{rules}
 use Rattle.rules.proofs.stock.add_to.Goals.{Else-answer-ne-DONE}
 use Rattle.rules.proofs.stock.add_to.Goals as goal
 

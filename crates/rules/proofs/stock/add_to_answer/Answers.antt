@@ -1,11 +1,10 @@
 use mathlib.Core.Path.{sym, ◌∙◌}
 use native.Mathlib.Omega.{arith}
 use lib.Dec.{leb}
-use borrow.Author.Tests.{not-true, not-false, leb-true, lt-ltb, le-ltb}
+use borrow.Author.Tests.{leb-true, lt-ltb, le-ltb}
 use Rattle.ground.specs.Limits.{most_intake, most_value}
 use Rattle.ground.proofs.Tests.{both_hold}
 use Rattle.rules.proofs.Refusing.{amount_small}
-use borrow.Author.Rules.{rules}
 use Rattle.rules.proofs.stock.add_to_answer.Goals as goal
 
 pub returns-then-not-stock_is_sound : goal.returns-then-not-stock_is_sound

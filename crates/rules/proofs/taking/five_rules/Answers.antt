@@ -2,13 +2,12 @@ use mathlib.Core.Path.{ap}
 use native.Mathlib.Omega.{arith}
 use Rattle.rules.specs.declared.rules.Ruled.{Ruled}
 use Rattle.rules.proofs.InOrder.{taken}
-use borrow.Author.Rules.{rules}
 use Rattle.rules.proofs.taking.five_rules.Goals as goal
 
 pub half_above-h-requires : goal.half_above-h-requires
 half_above-h-requires c =
     let one = c.rule1_fill-one in
-    let value = c.rule2_drop_slot-two.ensures.1 in
+    let value = c.rule2_drop_slot-two.ensures.value_stays in
     let room = ap (λ (r : Ruled). r.side.value) one.ensures in
     let pre = c.requires in
     (pre.shown, omega (arith, value, room, pre.room, pre.value))
@@ -23,5 +22,5 @@ returns c =
     let two = at.rule2_drop_slot-two in
     let one = at.rule1_fill-one in
     let a = at.args in
-    taken a.x a.m one.result two.result three.result four.result five.result one.ensures two.ensures.0 h.ensures
+    taken a.x a.m one.result two.result three.result four.result five.result one.ensures two.ensures.ruled h.ensures
     three.ensures four.ensures five.ensures

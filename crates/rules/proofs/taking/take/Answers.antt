@@ -2,7 +2,6 @@ use mathlib.Core.Path.{sym, ◌∙◌}
 use Rattle.rules.specs.Taking.{take_answer, five_rules, taken_of, refused_taking}
 use Rattle.ground.proofs.Choices.{when_done, when_refused}
 use Rattle.rules.proofs.Refusing.{takes}
-use borrow.Author.Rules.{rules}
 use Rattle.rules.proofs.taking.take.Goals as goal
 
 pub returns-then-answer-ne-DONE : goal.returns-then-answer-ne-DONE

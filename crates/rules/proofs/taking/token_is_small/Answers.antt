@@ -1,4 +1,3 @@
-use borrow.Author.Rules.{rules}
 use Rattle.rules.proofs.taking.token_is_small.Goals as goal
 
 pub returns : goal.returns

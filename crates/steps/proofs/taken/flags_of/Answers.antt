@@ -18,7 +18,7 @@ bounds-taken-p c = omega arith
 pub loop-p-preserved : goal.loop-p-preserved
 loop-p-preserved c =
     let at = c.loop-p in
-    let pool = c.args.t1 in (
+    let pool = c.args.pool in (
       omega arith,
       length-set at.taken at.p _ ∙ at.invariant.1,
       one_more 0 at.taken (flags_of pool) at.p _ (omega arith) at.invariant.2 (c.flag_of.ensures ∙ sym (flag_at pool at.p)),
@@ -27,6 +27,6 @@ loop-p-preserved c =
 pub returns : goal.returns
 returns c =
     let at = c.loop-p in
-    let pool = c.args.t1 in
+    let pool = c.args.pool in
     let full : length pool ≡ 64 = search rules in
     ext_get_or 0 at.taken (flags_of pool) (at.invariant.1 ∙ sym (length_flags pool ∙ full)) (λ i h. at.invariant.2 i (omega arith))

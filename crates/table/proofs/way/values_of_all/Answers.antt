@@ -19,17 +19,17 @@ loop-k-init c = (search rules, sym (sum_none _), search rules)
 
 pub offset_bounds-t-k : goal.offset_bounds-t-k
 offset_bounds-t-k c =
-    let m = (table_parts c.args.t1 c.requires).most in
+    let m = (table_parts c.args.t c.requires).most in
     omega arith
 
 pub bounds-t-k : goal.bounds-t-k
 bounds-t-k c =
-    let m = (table_parts c.args.t1 c.requires).most in
+    let m = (table_parts c.args.t c.requires).most in
     omega arith
 
 pub overflow_add-sum : goal.overflow_add-sum
 overflow_add-sum c =
-    let t = c.args.t1 in
+    let t = c.args.t in
     let at = c.loop-k in
     let v = (station_sound_lem t c.requires at.k c.loop-k-test.true).value in
     let m = (table_parts t c.requires).most in
@@ -37,10 +37,10 @@ overflow_add-sum c =
 
 pub loop-k-preserved : goal.loop-k-preserved
 loop-k-preserved c =
-    let t = c.args.t1 in
+    let t = c.args.t in
     let at = c.loop-k in
     let v = (station_sound_lem t c.requires at.k c.loop-k-test.true).value in
     (omega arith, rw at.invariant.1 (sym (sum_more (value t) at.k)), omega (arith, v, at.invariant.2))
 
 pub returns : goal.returns
-returns c = let at = c.loop-k in at.invariant.1 ∙ ap (sum_below (value c.args.t1)) (omega arith)
+returns c = let at = c.loop-k in at.invariant.1 ∙ ap (sum_below (value c.args.t)) (omega arith)

@@ -12,12 +12,12 @@ use Rattle.table.proofs.way.way_from.Goals as goal
 
 pub offset_bounds-t-i : goal.offset_bounds-t-i
 offset_bounds-t-i c =
-    let m = (table_parts c.args.t1 c.requires.0).most in
+    let m = (table_parts c.args.t c.requires.0).most in
     omega (arith, c.requires.1)
 
 pub bounds-t-i : goal.bounds-t-i
 bounds-t-i c =
-    let m = (table_parts c.args.t1 c.requires.0).most in
+    let m = (table_parts c.args.t c.requires.0).most in
     omega (arith, c.requires.1)
 
 pub loop-j-init : goal.loop-j-init
@@ -25,52 +25,52 @@ loop-j-init c = (search rules, sym (sum_none _), search rules)
 
 pub offset_bounds-giver-j : goal.offset_bounds-giver-j
 offset_bounds-giver-j c =
-    let m = (table_parts c.args.t1 c.requires.0).most in
+    let m = (table_parts c.args.t c.requires.0).most in
     omega (arith, c.requires.1)
 
 pub bounds-giver-j : goal.bounds-giver-j
 bounds-giver-j c =
-    let m = (table_parts c.args.t1 c.requires.0).most in
+    let m = (table_parts c.args.t c.requires.0).most in
     omega (arith, c.requires.1)
 
 pub offset_bounds-t-j : goal.offset_bounds-t-j
 offset_bounds-t-j c =
-    let m = (table_parts c.args.t1 c.requires.0).most in
+    let m = (table_parts c.args.t c.requires.0).most in
     omega (arith, c.requires.1)
 
 pub bounds-t-j : goal.bounds-t-j
 bounds-t-j c =
-    let m = (table_parts c.args.t1 c.requires.0).most in
+    let m = (table_parts c.args.t c.requires.0).most in
     omega (arith, c.requires.1)
 
 pub offset_bounds-receiver-i : goal.offset_bounds-receiver-i
 offset_bounds-receiver-i c =
-    let m = (table_parts c.args.t1 c.requires.0).most in
+    let m = (table_parts c.args.t c.requires.0).most in
     omega (arith, c.requires.1)
 
 pub bounds-receiver-i : goal.bounds-receiver-i
 bounds-receiver-i c =
-    let m = (table_parts c.args.t1 c.requires.0).most in
+    let m = (table_parts c.args.t c.requires.0).most in
     omega (arith, c.requires.1)
 
 pub overflow_add-sum : goal.overflow_add-sum
 overflow_add-sum c =
     let a = c.args in
     let at = c.loop-j in
-    let small = between_small a.t1 c.requires.0 a.i at.j c.requires.1 c.loop-j-test.true in
-    let m = (table_parts a.t1 c.requires.0).most in
+    let small = between_small a.t c.requires.0 a.i at.j c.requires.1 c.loop-j-test.true in
+    let m = (table_parts a.t c.requires.0).most in
     omega (arith, small, c.travels_to-sum.ensures, at.invariant.2)
 
 pub loop-j-preserved : goal.loop-j-preserved
 loop-j-preserved c =
     let a = c.args in
     let at = c.loop-j in
-    let small = between_small a.t1 c.requires.0 a.i at.j c.requires.1 c.loop-j-test.true in
-    (omega arith, rw (at.invariant.1, c.travels_to-sum.ensures) (sym (sum_more (between a.t1 a.i) at.j)), omega (arith, small, c.travels_to-sum.ensures, at.invariant.2))
+    let small = between_small a.t c.requires.0 a.i at.j c.requires.1 c.loop-j-test.true in
+    (omega arith, rw (at.invariant.1, c.travels_to-sum.ensures) (sym (sum_more (between a.t a.i) at.j)), omega (arith, small, c.travels_to-sum.ensures, at.invariant.2))
 
 pub returns : goal.returns
 returns c =
     let a = c.args in
     let at = c.loop-j in
-    let m = (table_parts a.t1 c.requires.0).most in
-    (at.invariant.1 ∙ ap (sum_below (between a.t1 a.i)) (omega arith), omega (arith, at.invariant.2))
+    let m = (table_parts a.t c.requires.0).most in
+    (at.invariant.1 ∙ ap (sum_below (between a.t a.i)) (omega arith), omega (arith, at.invariant.2))

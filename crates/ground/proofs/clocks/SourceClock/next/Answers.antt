@@ -1,5 +1,4 @@
 use borrow.Author.Tests.{lt-ltb, le-ltb}
-use borrow.Author.Rules.{rules}
 use Rattle.ground.proofs.clocks.SourceClock.next.Goals as goal
 
 pub returns-then-self-ge-LAST_CLOCK : goal.returns-then-self-ge-LAST_CLOCK

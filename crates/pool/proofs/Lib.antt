@@ -1,3 +1,0 @@
-pub mod LentAnswers
-pub mod LentPool
-pub mod LentBridge
