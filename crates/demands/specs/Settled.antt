@@ -1,5 +1,5 @@
 -- What the contracts have to settle, as one list: for each public function, the contract that it is
--- proved by is this promise, and any two outcomes that the promise allows are equal (Contracts:
+-- proved by is this promise, and any two outcomes that the promise allows are equal (Promises:
 -- `Settles`, `SettlesBoth`). A promise is a definition applied to the parameters: to what one that
 -- is lent holds, to any other itself. What one that is lent to be changed holds at the end is named
 -- by its place. `tools/listed` holds each row against the source.
