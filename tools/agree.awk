@@ -1,5 +1,5 @@
 # Reads names with their numbers from five sides and compares each side with the definitions. A name
-# is compared as the header writes it, without QB_: notSound and NotSound are NOT_SOUND.
+# is compared as the header writes it, without QB_: not_sound and NotSound are NOT_SOUND.
 #
 # A line is read in one form only. One in another form is a fault, so that nothing is passed over:
 # in a file that has nothing else any line but a comment, in another one the lines of what is read.
@@ -37,7 +37,7 @@ function unread() {
     fault(here(), "this is not read: " $0)
 }
 
-# notSound and NotSound as NOT_SOUND
+# not_sound and NotSound as NOT_SOUND
 function upper(name) {
     gsub(/[A-Z]/, "_&", name)
     sub(/^_/, "", name)
@@ -73,7 +73,7 @@ FNR == 1 { into = declared = "" }
 
 FILENAME ~ /ground\/specs\/(Answers|Limits)\.antt$/ {
     if (declared != "") reads_number(FILENAME ~ /Answers/ ? "answer" : "limit")
-    else if ($0 ~ /^abbrev pub [a-zA-Z]+ : ℕ$/) declared = $3
+    else if ($0 ~ /^abbrev pub [a-z_]+ : ℕ$/) declared = $3
     else if ($0 !~ /^(--.*|use .*)?$/) unread()
 }
 
@@ -84,14 +84,14 @@ function reads_number(which) {
 }
 
 # the rules' weights by their numbers; the names of the rules are those of their functions
-FILENAME ~ /rules\/specs\/Report\.antt$/ && /^rulesOf r/ {
+FILENAME ~ /rules\/specs\/Report\.antt$/ && /^rules_of r/ {
     rest = $0
-    sub(/^rulesOf r = /, "", rest)
+    sub(/^rules_of r = /, "", rest)
     n = split(rest, term, / \+ /)
     for (i = 1; i <= n; i++) {
-        if (term[i] !~ ("^numberIfActed \\(r \\.rule" i "\\) [0-9]+$")) unread()
+        if (term[i] !~ ("^number_if_acted r\\.rule" i " [0-9]+$")) unread()
         split(term[i], part, " ")
-        weight[i] = part[4]
+        weight[i] = part[3]
     }
 }
 
@@ -107,22 +107,22 @@ FILENAME ~ /rules\/src\/rules\.rt$/ && /^(pub\(crate\) )?fn rule[0-9]/ {
 
 FILENAME ~ /quynhabet\/specs\/Layout\.antt$/ {
     if (into != "") reads_field()
-    else if (/^layoutVersion =/) reads_version()
-    else if (/^(slot|token)Place k =/) reads_place()
-    else if (/^stationOf numbers =$/) into = "STATION_"
-    else if (/^messageOf numbers =$/) into = "MESSAGE_"
-    else if (/^fourAt numbers at =$/) into = "FOUR_"
+    else if (/^layout_version =/) reads_version()
+    else if (/^(slot|token)_place k =/) reads_place()
+    else if (/^station_of numbers =$/) into = "STATION_"
+    else if (/^message_of numbers =$/) into = "MESSAGE_"
+    else if (/^four_at numbers at =$/) into = "FOUR_"
 }
 
 function reads_version() {
-    if ($0 ~ /^layoutVersion = [0-9]+$/) defines("version", "LAYOUT_VERSION", $3, here())
+    if ($0 ~ /^layout_version = [0-9]+$/) defines("version", "LAYOUT_VERSION", $3, here())
     else unread()
 }
 
 # the place of the first, and how many numbers there are from one to the next
 function reads_place(    what) {
     what = /^slot/ ? "SLOT" : "TOKEN"
-    if ($0 !~ /^(slot|token)Place k = [0-9]+ \+ [0-9]+ \* k$/) unread()
+    if ($0 !~ /^(slot|token)_place k = [0-9]+ \+ [0-9]+ \* k$/) unread()
     first[what] = $4
     step[what] = $6
     defines("place", "STATION_" what, $4 " + " $6 " * peer", here())
@@ -132,10 +132,10 @@ function reads_place(    what) {
 function reads_field() {
     if (into == "FOUR_") reads_four()
     else if (/^ *\}$/) into = ""
-    else if (/^ *[a-z]+ = getD numbers [0-9]+ 0;$/) places($1, word(5))
-    else if (/^ *[a-z]+ = record \{ 0 = getD numbers [0-9]+ 0 \};$/) places($1, word(9))
-    else if (/^ *(slot|token) = (slot|token)Of \(fourAt numbers [0-9]+\);$/) places($1, word(6))
-    else if (!/^ *(record \{|slots = slotsOf numbers;|tokens = tokensOf numbers;)$/) unread()
+    else if (/^ *[a-z]+ = get_or numbers [0-9]+ 0;$/) places($1, word(5))
+    else if (/^ *[a-z]+ = record \{ 0 = get_or numbers [0-9]+ 0 \};$/) places($1, word(9))
+    else if (/^ *(slot|token) = (slot|token)_of \(four_at numbers [0-9]+\);$/) places($1, word(6))
+    else if (!/^ *(record \{|slots = slots_of numbers;|tokens = tokens_of numbers;)$/) unread()
 }
 
 function places(field, place) {
@@ -150,7 +150,7 @@ function reads_four(    rest, n, i, part, form) {
     into = ""
     for (i = 1; i <= n; i++) {
         form = i == 1 ? "at" : "\\(at \\+ " (i - 1) "\\)"
-        if (part[i] !~ ("^[a-z]+ = getD numbers " form " 0$")) unread()
+        if (part[i] !~ ("^[a-z]+ = get_or numbers " form " 0$")) unread()
         sub(/ =.*/, "", part[i])
         places(part[i], i - 1)
     }
@@ -162,13 +162,13 @@ function reads_four(    rest, n, i, part, form) {
 FILENAME ~ /record\/specs\/Fields\.antt$/ {
     rest = $0
     if (sub(/^tagged tag sizes numbers = /, "", rest)) {
-        if (rest !~ /^big [0-9]+ tag \+\+ big [0-9]+ \(total sizes\) \+\+ bodyOf sizes numbers$/) unread()
+        if (rest !~ /^big [0-9]+ tag \+\+ big [0-9]+ \(total sizes\) \+\+ body_of sizes numbers$/) unread()
         head = $7 + $11
     }
 }
 
 FILENAME ~ /record\/specs\/Dateless\.antt$/ {
-    if (/^[a-z]+Field = /) {
+    if (/^[a-z]+_field = /) {
         if ($3 !~ /^(required|optional)$/ || $4 !~ /^[0-9]+$/) unread()
         wide[$1] = head + body_length($0)
     } else if (/^dateless = /) defines("size", "RECORD_MAX", width($0), here())
@@ -176,7 +176,7 @@ FILENAME ~ /record\/specs\/Dateless\.antt$/ {
 
 # the sum of a list of sizes, (4 ∷ 4 ∷ 8 ∷ [])
 function body_length(text,    n, i, part, sum) {
-    if (!sub(/^[^(]*\(/, "", text) || !sub(/ ∷ \[\]\) [A-Za-z]+$/, "", text)) unread()
+    if (!sub(/^[^(]*\(/, "", text) || !sub(/ ∷ \[\]\) [a-z_]+$/, "", text)) unread()
     n = split(text, part, / ∷ /)
     for (i = 1; i <= n; i++) {
         if (part[i] !~ /^[0-9]+$/) unread()

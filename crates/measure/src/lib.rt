@@ -7,8 +7,7 @@ ghost use Rattle.measure.specs.Steps.{last_result_of, RunsFresh};
 use steps::asked::Asked;
 
 // A run in one call: how many steps were done.
-#[unsafe(no_mangle)]
-pub extern "C" fn qm_run(count: u64, codes: &[u64], told: &mut [u64]) -> u64
+pub fn qm_run(count: u64, codes: &[u64], told: &mut [u64]) -> u64
     ensures { RunsFresh count codes.now told.old result told.new }
 {
     let made = table::fresh_table(count);
@@ -18,8 +17,7 @@ pub extern "C" fn qm_run(count: u64, codes: &[u64], told: &mut [u64]) -> u64
 }
 
 // A call for each step, with the table by value: the last result.
-#[unsafe(no_mangle)]
-pub extern "C" fn qm_last_result(count: u64, codes: &[u64]) -> u64
+pub fn qm_last_result(count: u64, codes: &[u64]) -> u64
     ensures { result ≡ last_result_of count codes.now }
 {
     let made = table::fresh_table(count);

@@ -11,8 +11,7 @@ use ground::answers::{DONE, NO_RECORD, NOT_SOUND};
 use station::sound::station_is_sound;
 
 // Makes a station with nothing in it: refused by 1, 2.
-#[unsafe(no_mangle)]
-pub extern "C" fn qb_station_fresh(number: u64, count: u64, station: &mut [u64; 134]) -> ToldNumbers
+pub fn qb_station_fresh(number: u64, count: u64, station: &mut [u64; 134]) -> ToldNumbers
     ensures { Makes number count station.old result station.new }
 {
     let numbers = *station;
@@ -23,8 +22,7 @@ pub extern "C" fn qb_station_fresh(number: u64, count: u64, station: &mut [u64; 
 }
 
 // Whether the numbers are a sound station: refused by 1.
-#[unsafe(no_mangle)]
-pub extern "C" fn qb_station_check(station: &[u64; 134]) -> ToldNumbers
+pub fn qb_station_check(station: &[u64; 134]) -> ToldNumbers
     ensures { result ≡ check_of station.now }
 {
     let numbers = *station;
@@ -38,8 +36,7 @@ pub extern "C" fn qb_station_check(station: &[u64; 134]) -> ToldNumbers
 }
 
 // Raises value and intake: refused by 1, 4, 5, 10.
-#[unsafe(no_mangle)]
-pub extern "C" fn qb_station_add(station: &mut [u64; 134], amount: u64) -> ToldNumbers
+pub fn qb_station_add(station: &mut [u64; 134], amount: u64) -> ToldNumbers
     ensures { Adds station.old amount result station.new }
 {
     let numbers = *station;
@@ -50,8 +47,7 @@ pub extern "C" fn qb_station_add(station: &mut [u64; 134], amount: u64) -> ToldN
 }
 
 // Takes the amount, all or none of it: refused by 1, 4, 15.
-#[unsafe(no_mangle)]
-pub extern "C" fn qb_station_draw(station: &mut [u64; 134], amount: u64) -> ToldNumbers
+pub fn qb_station_draw(station: &mut [u64; 134], amount: u64) -> ToldNumbers
     ensures { Draws station.old amount result station.new }
 {
     let numbers = *station;
@@ -62,8 +58,7 @@ pub extern "C" fn qb_station_draw(station: &mut [u64; 134], amount: u64) -> Told
 }
 
 // Writes the station's message for another station as a record: refused by 1, 2, 3, 14.
-#[unsafe(no_mangle)]
-pub extern "C" fn qb_station_write(station: &[u64; 134], to: u64, out: &mut [u8]) -> ToldNumbers
+pub fn qb_station_write(station: &[u64; 134], to: u64, out: &mut [u8]) -> ToldNumbers
     ensures { Shows station.now to out.old result out.new }
 {
     let numbers = *station;
@@ -75,8 +70,7 @@ pub extern "C" fn qb_station_write(station: &[u64; 134], to: u64, out: &mut [u8]
 }
 
 // Lets the station take a record: refused by 1, 9, 2, 11, 10.
-#[unsafe(no_mangle)]
-pub extern "C" fn qb_station_receive(station: &mut [u64; 134], bytes: &[u8]) -> ToldNumbers
+pub fn qb_station_receive(station: &mut [u64; 134], bytes: &[u8]) -> ToldNumbers
     ensures { Receives station.old bytes.now result station.new }
 {
     let numbers = *station;
@@ -87,8 +81,7 @@ pub extern "C" fn qb_station_receive(station: &mut [u64; 134], bytes: &[u8]) -> 
 }
 
 // Reads a record into a message: refused by 9.
-#[unsafe(no_mangle)]
-pub extern "C" fn qb_record_read(bytes: &[u8], message: &mut [u64; 13]) -> ToldNumbers
+pub fn qb_record_read(bytes: &[u8], message: &mut [u64; 13]) -> ToldNumbers
     ensures { Reads bytes.now message.old result message.new }
 {
     let numbers = *message;
@@ -99,8 +92,7 @@ pub extern "C" fn qb_record_read(bytes: &[u8], message: &mut [u64; 13]) -> ToldN
 }
 
 // Writes a message as a record: refused by 9, 14.
-#[unsafe(no_mangle)]
-pub extern "C" fn qb_record_write(message: &[u64; 13], out: &mut [u8]) -> ToldNumbers
+pub fn qb_record_write(message: &[u64; 13], out: &mut [u8]) -> ToldNumbers
     ensures { WritesNumbers message.now out.old result out.new }
 {
     let numbers = *message;

@@ -7,4 +7,4 @@ mod fours;
 mod messages;
 mod moving;
 mod stations;
-mod told;
+pub mod told;

@@ -52,8 +52,8 @@ token_may (OneToken t) before clock o c e =
     ((omega arith, (omega arith, (omega arith, tt))), rw e o)
 
 -- the bodies that stand before the slot's
-abbrev front_of : Message → List Body
-front_of m =
+abbrev before_slot : Message → List Body
+before_slot m =
     body (m.from ∷ []) ∷ body (m.to ∷ []) ∷ body (m.value ∷ []) ∷ body (m.source.0 ∷ m.destination.0 ∷ []) ∷ []
 
 -- a sound message may be held by a record
@@ -81,9 +81,9 @@ content m o =
           (
             ((omega arith, (omega arith, tt)), rw (s', d')),
             (
-              slot_may m.slot (front_of m) m.destination l d refl,
+              slot_may m.slot (before_slot m) m.destination l d refl,
               (
-                token_may m.token (front_of m ++ (slot_body m.slot ∷ [])) m.source k s refl,
+                token_may m.token (before_slot m ++ (slot_body m.slot ∷ [])) m.source k s refl,
                 tt,
               ),
             ),
@@ -105,8 +105,8 @@ pub sound_of : (m : Message) → Passed dateless [] (bodies_of m) → message_so
 unfolding message_sound
 sound_of m p =
     let to = both_hold (leb m.to 15) (not (eqb m.from m.to)) p.1.0.1 in
-    let slot : slot_sound m.slot m.destination ≡ true = rw (← slot_back m.slot) (slot_sound_lem (front_of m) (slot_body m.slot) p.1.1.1.1.0) in
-    let token : token_sound m.token m.source ≡ true = rw (← token_back m.token) (token_sound_lem (front_of m ++ (slot_body m.slot ∷ [])) (token_body m.token) p.1.1.1.1.1.0) in
+    let slot : slot_sound m.slot m.destination ≡ true = rw (← slot_back m.slot) (slot_sound_lem (before_slot m) (slot_body m.slot) p.1.1.1.1.0) in
+    let token : token_sound m.token m.source ≡ true = rw (← token_back m.token) (token_sound_lem (before_slot m ++ (slot_body m.slot ∷ [])) (token_body m.token) p.1.1.1.1.1.0) in
     rw (p.0.1, to.0, to.1, p.1.1.0.1, p.1.1.1.0.1, slot, token)
 
 message_back : (m : Message) → message_in (bodies_of m) ≡ m

@@ -58,6 +58,7 @@ fn add_to_answer(value: u64, intake: u64, amount: u64) -> u8
 }
 
 // Raises value and intake: refused by 1, 4, 5, 10.
+#[tactic(auto, unfolding(crate::specs::Stock::added_to))]
 pub fn add_to(value: u64, intake: u64, amount: u64) -> Stock
     ensures { result ≡ added_to value intake amount }
 {
@@ -75,6 +76,7 @@ pub fn add_to(value: u64, intake: u64, amount: u64) -> Stock
 }
 
 // Takes the amount, all or none of it: refused by 1, 4, 15.
+#[tactic(auto, unfolding(crate::specs::Stock::drawn_from))]
 pub fn draw_from(value: u64, intake: u64, amount: u64) -> Stock
     ensures { result ≡ drawn_from value intake amount }
 {

@@ -50,6 +50,7 @@ fn take_answer(x: Side, m: Message) -> u8
     answers::DONE
 }
 
+#[tactic(auto, unfolding(crate::specs::Taking::five_rules))]
 fn five_rules(x: Side, m: Message) -> Taken
     requires { Takes x m }
     ensures { result ≡ five_rules x m }
@@ -83,6 +84,7 @@ fn five_rules(x: Side, m: Message) -> Taken
 }
 
 // Lets a side take a message: refused by 1, 9, 10.
+#[tactic(auto, unfolding(crate::specs::Taking::taken_of))]
 pub fn take(x: Side, m: Message) -> Taken
     ensures { result ≡ taken_of x m }
 {

@@ -3,7 +3,7 @@
 -- Assumes nothing.
 use Prim.Native.Nat.{ℕ, zero, suc, ◌+◌, ◌<◌, ◌≤◌}
 use mathlib.Core.Path.{◌≡◌, refl}
-use mathlib.Core.Bool.{Bool, true, false, not, ◌&&◌, and-false}
+use mathlib.Core.Bool.{Bool, true, false, not, ◌&&◌}
 use mathlib.Core.List.{[], ◌∷◌}
 use native.Mathlib.Omega.{arith}
 use lib.Dec.{ltb, leb}
@@ -54,7 +54,7 @@ small_message m v e = rw (le-leb _ _ v) (by m.token e)
   where
     by : (h : HeldToken) → token_sound h m.source ≡ true → token_small h ≡ true
     by NoToken e = refl
-    by (OneToken k) e = needed (leb k.quantity most_value) (λ f. simp (f, and-false) at e)
+    by (OneToken k) e = needed (leb k.quantity most_value) (λ f. simp f at e)
 
 -- what a plan tells, and the table that it leaves
 abbrev pub stepped : Table → ℕ → ℕ → Plan → Stepped

@@ -69,7 +69,7 @@ rests_same x m e =
     ∙ drop_token_rests three.side (destination_shown m) three.side.token (not_allowed four.acted (λ f. simp (f, or-true) at e))
     ∙ open_slot_rests two.side m (half_above m.value two.side.value) two.side.slot (not_allowed three.acted (λ f. simp (f, or-true) at e))
     ∙ drop_slot_rests one.side m one.side.slot (not_allowed two.acted (λ f. simp (f, or-true) at e))
-    ∙ fill_rests x m.token x.slot (not_allowed one.acted (λ f. simp (f, or-true) at e))
+    ∙ fill_rests x m.token x.slot (not_allowed one.acted (λ f. simp f at e))
 
 pub side_same : (s : Station) (j : ℕ) → put_side s j (side_for s j) ≡ s
 side_same s j = rw (set_same s.slots j no_slot, set_same s.tokens j no_token)

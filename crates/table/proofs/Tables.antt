@@ -40,11 +40,15 @@ table_parts t e =
     let seats = needed (all_below (λ k. seat_sound (station_at t k) k t.count) most_stations) (λ f. simp (f, and-false) at e) in
     let places = needed (all_below (λ p. place_sound (waiting_at t p) t.count) most_places) (λ f. simp (f, and-false) at e) in
     record {
-      least = leb-true _ _ (needed (leb 2 t.count) (λ f. simp (f, and-false) at e));
+      least = leb-true _ _ (needed (leb 2 t.count) (λ f. simp f at e));
       most = leb-true _ _ (needed (leb t.count most_stations) (λ f. simp (f, and-false) at e));
       seats = λ k h. all_at (λ k. seat_sound (station_at t k) k t.count) most_stations k seats h;
       places = λ p h. all_at (λ p. place_sound (waiting_at t p) t.count) most_places p places h;
     }
+
+-- so that a number below the count is one of the array's
+pub count_most : (t : Table) → table_sound t ≡ true → t.count ≤ most_stations
+count_most t e = (table_parts t e).most
 
 pub table_whole : (t : Table) → SoundTable t → table_sound t ≡ true
 unfolding table_sound
@@ -60,7 +64,7 @@ pub seated : (s : Station) (k count : ℕ) → k < count → seat_sound s k coun
 seated s k count h e =
     let f : (station_sound s && eqb s.number k && eqb s.count count) ≡ true = rw (lt-leb count k h) at e in
     record {
-      sound = needed (station_sound s) (λ g. simp (g, and-false) at f);
+      sound = needed (station_sound s) (λ g. simp g at f);
       number = eqb-true _ _ (needed (eqb s.number k) (λ g. simp (g, and-false) at f));
       count = eqb-true _ _ (needed (eqb s.count count) (λ g. simp (g, and-false) at f));
     }
@@ -68,7 +72,7 @@ seated s k count h e =
 pub waits : (m : Message) (count : ℕ) → place_sound (One m) count ≡ true → Waits m count
 waits m count e =
     record {
-      sound = needed (message_sound m) (λ g. simp (g, and-false) at e);
+      sound = needed (message_sound m) (λ g. simp g at e);
       from = ltb-true _ _ (needed (ltb m.from count) (λ g. simp (g, and-false) at e));
       to = ltb-true _ _ (needed (ltb m.to count) (λ g. simp (g, and-false) at e));
     }

@@ -28,6 +28,7 @@ fn travels_to(token: HeldToken, slot: HeldSlot) -> u64
 }
 
 // From station i to all others.
+#[tactic(auto, using(crate::proofs::Tables::count_most))]
 fn way_from(t: Table, i: usize) -> u64
     requires { (table_sound t ≡ true) × (i < t.count) }
     ensures { (result ≡ way_from t i) × (result ≤ most_value * most_stations) }
@@ -48,6 +49,7 @@ fn way_from(t: Table, i: usize) -> u64
     sum
 }
 
+#[tactic(auto, using(crate::proofs::Tables::count_most))]
 fn way_of_all(t: Table) -> u64
     requires { table_sound t ≡ true }
     ensures { result ≡ on_the_way t }
@@ -62,6 +64,7 @@ fn way_of_all(t: Table) -> u64
     sum
 }
 
+#[tactic(auto, using(crate::proofs::Tables::count_most))]
 fn values_of_all(t: Table) -> u64
     requires { table_sound t ≡ true }
     ensures { result ≡ at_stations t }

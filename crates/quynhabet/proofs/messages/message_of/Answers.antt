@@ -5,16 +5,16 @@ use borrow.Author.Rules.{rules}
 use Rattle.quynhabet.proofs.messages.message_of.Goals as goal
 
 pub overflow_cast-result : goal.overflow_cast-result
-overflow_cast-result c = omega (arith, (message_fits_lem c.args.t1 c.requires).source)
+overflow_cast-result c = omega (arith, (message_fits_lem c.args.numbers c.requires).source)
 
 pub overflow_cast-result-2 : goal.overflow_cast-result-2
-overflow_cast-result-2 c = omega (arith, (message_fits_lem c.args.t1 c.requires).destination)
+overflow_cast-result-2 c = omega (arith, (message_fits_lem c.args.numbers c.requires).destination)
 
 pub slot_of-requires : goal.slot_of-requires
-slot_of-requires c = rw c.four_at-slot.ensures (message_fits_lem c.args.t1 c.requires).slot
+slot_of-requires c = rw c.four_at-slot.ensures (message_fits_lem c.args.numbers c.requires).slot
 
 pub token_of-requires : goal.token_of-requires
-token_of-requires c = rw c.four_at-token.ensures (message_fits_lem c.args.t1 c.requires).token
+token_of-requires c = rw c.four_at-token.ensures (message_fits_lem c.args.numbers c.requires).token
 
 pub returns : goal.returns
 unfolding message_of

@@ -7,4 +7,4 @@ pub returns-then-o-ne-DONE : goal.returns-then-o-ne-DONE
 returns-then-o-ne-DONE c = record { told = c.told_of-told.ensures; lent = when_refused _ _ _ c.if-o-ne-DONE.true }
 
 pub returns : goal.returns
-returns c = record { told = c.told_of-told.ensures; lent = c.Numbers-of.ensures ∙ when_done _ _ c.if-o-ne-DONE.false }
+returns c = record { told = c.told_of-told.ensures; lent = c.numbers_of.ensures ∙ when_done _ _ c.if-o-ne-DONE.false }

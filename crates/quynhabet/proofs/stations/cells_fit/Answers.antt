@@ -11,7 +11,7 @@ pub loop-k-init : goal.loop-k-init
 loop-k-init c = (search rules, sym (all_none _))
 
 pub loop-k-preserved : goal.loop-k-preserved
-loop-k-preserved c = let at = c.loop-k in (omega arith, rw (c.four_fits-in-loop-k.ensures, c.four_fits.ensures, c.four_at-token.ensures, c.four_at-slot.ensures, at.invariant.1) (sym (all_more (cells_fit c.args.t1) at.k)))
+loop-k-preserved c = let at = c.loop-k in (omega arith, rw (c.four_fits-in-loop-k.ensures, c.four_fits.ensures, c.four_at-token.ensures, c.four_at-slot.ensures, at.invariant.1) (sym (all_more (cells_fit c.args.numbers) at.k)))
 
 pub returns : goal.returns
-returns c = let at = c.loop-k in at.invariant.1 ∙ ap (all_below (cells_fit c.args.t1)) (omega arith)
+returns c = let at = c.loop-k in at.invariant.1 ∙ ap (all_below (cells_fit c.args.numbers)) (omega arith)

@@ -1,6 +1,5 @@
 use mathlib.Core.Path.{◌∙◌}
 use Rattle.record.specs.AtStation.{receive_bytes_of}
-use borrow.Author.Rules.{rules}
 use Rattle.record.proofs.at_station.receive_bytes.Goals as goal
 
 pub returns : goal.returns

@@ -3,7 +3,6 @@ use lib.ListN.{length}
 use Rattle.station.specs.declared.message.Shown.{Shown}
 use Rattle.station.proofs.Answering.{show_tells}
 use Rattle.record.proofs.Showing.{shows, writes_nothing, writes_shown}
-use borrow.Author.Rules.{rules}
 use Rattle.record.proofs.at_station.write_message.Goals as goal
 
 pub returns-then-answer-ne-DONE : goal.returns-then-answer-ne-DONE

@@ -1,11 +1,8 @@
-use native.Mathlib.Omega.{arith}
-use borrow.Author.Rules.{rules}
 use Prim.Native.Nat.{◌+◌, ◌-◌, ◌≤◌}
-use mathlib.Core.Path.{◌≡◌, refl, ap, ◌∙◌}
+use mathlib.Core.Path.{◌≡◌}
 use lib.ListN.{length}
-use lib.Seq.{sets, length-sets}
+use lib.Seq.{sets}
 use Rattle.script.specs.Script.{station_lines}
-use Rattle.script.proofs.Closings.{length_stations, no_stations, station_turn, stations_put}
 use Rattle.script.proofs.closing.put_stations.Given as goal
 
 abbrev pub invariant-loop-k : goal.invariant-loop-k

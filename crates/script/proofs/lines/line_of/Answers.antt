@@ -1,4 +1,3 @@
-use borrow.Author.Rules.{rules}
 use Rattle.script.specs.Lines.{line_of}
 use Rattle.script.proofs.lines.line_of.Goals as goal
 

@@ -1,19 +1,11 @@
-use mathlib.Core.Path.{◌≡◌}
-use borrow.Author.Rules.{rules}
-use Rattle.script.specs.declared.words.Numeral.TheVariants.{Reads}
-use Rattle.script.specs.Words.{numeral_of, up_to}
 use Rattle.script.proofs.Asked.{read_part}
-use Rattle.script.proofs.lines.pair_of.Goals.{In-Reads}
 use Rattle.script.proofs.lines.pair_of.Goals as goal
-
-first_read : (c : In-Reads) → numeral_of (up_to 32 c.args.words.now) ≡ Reads c.in-Reads.n
-first_read c = read_part c.word_of.ensures c.numeral_of.ensures c.in-Reads.is
 
 pub returns-in_default : goal.returns-in_default
 returns-in_default c = rw (read_part c.word_of.ensures c.numeral_of.ensures c.in_default.is)
 
 pub returns-in_default-numeral_of : goal.returns-in_default-numeral_of
-returns-in_default-numeral_of c = rw (first_read c, read_part c.rest_of.ensures c.numeral_of-2.ensures c.in_default-numeral_of.is)
+returns-in_default-numeral_of c = rw (read_part c.word_of.ensures c.numeral_of.ensures c.in-Reads.is, read_part c.rest_of.ensures c.numeral_of-2.ensures c.in_default-numeral_of.is)
 
 pub returns : goal.returns
-returns c = rw (first_read c, read_part c.rest_of.ensures c.numeral_of-2.ensures c.in-Reads-numeral_of.is)
+returns c = rw (read_part c.word_of.ensures c.numeral_of.ensures c.in-Reads.is, read_part c.rest_of.ensures c.numeral_of-2.ensures c.in-Reads-numeral_of.is)

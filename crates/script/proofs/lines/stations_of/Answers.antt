@@ -1,10 +1,6 @@
 use mathlib.Core.Path.{sym, ◌∙◌}
-use borrow.Author.Rules.{rules}
 use Rattle.script.specs.Lines.{stations_of}
 use Rattle.script.proofs.lines.stations_of.Goals as goal
-
-word-of-requires : tie.Need-word-of-requires
-word-of-requires c κs = search rules
 
 pub returns-then-same_bytes : goal.returns-then-same_bytes
 unfolding stations_of

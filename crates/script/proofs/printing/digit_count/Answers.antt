@@ -1,9 +1,6 @@
-use Prim.Native.Nat.{◌+◌, ◌≤◌}
-use mathlib.Core.Path.{◌≡◌, ap}
+use mathlib.Core.Path.{ap}
 use native.Mathlib.Omega.{arith}
 use lib.ListN.{length}
-use borrow.Author.Rules.{rules}
-use Rattle.script.specs.Decimal.{decimal}
 use Rattle.script.proofs.Decimals.{decimal_one, length_decimal, length_more}
 use Rattle.script.proofs.printing.digit_count.Goals as goal
 

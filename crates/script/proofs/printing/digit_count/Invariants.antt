@@ -1,10 +1,7 @@
 use Prim.Native.Nat.{◌+◌, ◌≤◌}
-use mathlib.Core.Path.{◌≡◌, ap}
-use native.Mathlib.Omega.{arith}
+use mathlib.Core.Path.{◌≡◌}
 use lib.ListN.{length}
-use borrow.Author.Rules.{rules}
 use Rattle.script.specs.Decimal.{decimal}
-use Rattle.script.proofs.Decimals.{decimal_one, length_decimal, length_more}
 use Rattle.script.proofs.printing.digit_count.Given as goal
 
 -- what is counted and what is still to be counted is one more than all, since the last digit is in

@@ -1,10 +1,7 @@
-use Prim.Native.Nat.{◌^◌, ◌≤◌, ◌<◌}
-use mathlib.Core.Path.{◌≡◌, refl, ◌∙◌}
+use Prim.Native.Nat.{◌^◌, ◌<◌}
+use mathlib.Core.Path.{refl, ◌∙◌}
 use native.Mathlib.Omega.{arith}
-use lib.ListN.{length, length-set}
-use lib.Seq.{sets}
-use borrow.Author.Rules.{rules}
-use Rattle.script.specs.Decimal.{decimal}
+use lib.ListN.{length-set}
 use Rattle.script.proofs.Decimals.{decimal_one, length_decimal, length_more, digit_turn}
 use Rattle.script.proofs.printing.put_decimal.Goals as goal
 

@@ -1,11 +1,8 @@
-use Prim.Native.Nat.{◌^◌, ◌≤◌, ◌<◌}
-use mathlib.Core.Path.{◌≡◌, refl, ◌∙◌}
-use native.Mathlib.Omega.{arith}
-use lib.ListN.{length, length-set}
+use Prim.Native.Nat.{◌≤◌}
+use mathlib.Core.Path.{◌≡◌}
+use lib.ListN.{length}
 use lib.Seq.{sets}
-use borrow.Author.Rules.{rules}
 use Rattle.script.specs.Decimal.{decimal}
-use Rattle.script.proofs.Decimals.{decimal_one, length_decimal, length_more, digit_turn}
 use Rattle.script.proofs.printing.put_decimal.Given as goal
 
 -- what is still to be stored, stored now, gives the end result

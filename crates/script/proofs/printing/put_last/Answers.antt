@@ -2,7 +2,6 @@ use mathlib.Core.Path.{refl}
 use mathlib.Core.List.{[], ◌∷◌, ◌++◌}
 use native.Mathlib.Omega.{arith}
 use lib.ListN.{length-append}
-use borrow.Author.Rules.{rules}
 use Rattle.script.specs.Decimal.{decimal}
 use Rattle.script.proofs.Decimals.{length_decimal}
 use Rattle.script.proofs.Puts.{both}

@@ -1,4 +1,3 @@
-use borrow.Author.Rules.{rules}
 use Rattle.script.specs.Decimal.{decimal}
 use Rattle.script.proofs.Puts.{both}
 use Rattle.script.proofs.printing.put_named.Goals as goal

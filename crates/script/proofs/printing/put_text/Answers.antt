@@ -1,10 +1,7 @@
-use Prim.Native.Nat.{◌+◌, ◌-◌, ◌≤◌}
-use mathlib.Core.Path.{◌≡◌, refl, ◌∙◌}
+use mathlib.Core.Path.{refl, ◌∙◌}
 use native.Mathlib.Omega.{arith}
 use native.Mathlib.Nat.{add-zero}
-use lib.ListN.{length, drop, length-set}
-use lib.Seq.{sets}
-use borrow.Author.Rules.{rules}
+use lib.ListN.{length-set}
 use Rattle.script.proofs.Puts.{text_turn, text_none}
 use Rattle.script.proofs.printing.put_text.Goals as goal
 

@@ -1,11 +1,7 @@
 use Prim.Native.Nat.{◌+◌, ◌-◌, ◌≤◌}
-use mathlib.Core.Path.{◌≡◌, refl, ◌∙◌}
-use native.Mathlib.Omega.{arith}
-use native.Mathlib.Nat.{add-zero}
-use lib.ListN.{length, drop, length-set}
+use mathlib.Core.Path.{◌≡◌}
+use lib.ListN.{length, drop}
 use lib.Seq.{sets}
-use borrow.Author.Rules.{rules}
-use Rattle.script.proofs.Puts.{text_turn, text_none}
 use Rattle.script.proofs.printing.put_text.Given as goal
 
 -- what is still to be stored, stored now, gives the end result

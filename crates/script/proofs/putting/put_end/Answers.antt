@@ -1,4 +1,3 @@
-use borrow.Author.Rules.{rules}
 use native.Mathlib.Omega.{arith}
 use Rattle.script.proofs.Turns.{table_sound_lem}
 use Rattle.script.proofs.putting.put_end.Goals as goal

@@ -1,6 +1,4 @@
-use borrow.Author.Rules.{rules}
 use mathlib.Core.Path.{refl, sym, ◌∙◌}
-use borrow.Author.Tests.{not-true, not-false}
 use lib.ListN.{length}
 use Rattle.script.proofs.Turns.{puts_lines_by, turn_closes, turn_finished, turn_short, turn_steps, turn_unsound}
 use Rattle.script.proofs.putting.put_lines.Goals as goal

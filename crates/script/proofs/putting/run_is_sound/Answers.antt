@@ -1,4 +1,3 @@
-use borrow.Author.Rules.{rules}
 use Rattle.script.proofs.putting.run_is_sound.Goals as goal
 
 pub returns : goal.returns

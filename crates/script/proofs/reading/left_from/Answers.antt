@@ -1,5 +1,4 @@
 use Rattle.script.proofs.Cutting.{left_all, left_none}
-use borrow.Author.Rules.{rules}
 use Rattle.script.proofs.reading.left_from.Goals as goal
 
 pub returns-then-at-script : goal.returns-then-at-script

@@ -1,5 +1,4 @@
 use Rattle.script.proofs.Cutting.{front, front_length}
-use borrow.Author.Rules.{rules}
 use Rattle.script.proofs.reading.line_at.Goals as goal
 
 pub slice_bounds-result-end : goal.slice_bounds-result-end

@@ -5,7 +5,6 @@ use Prim.Native.Nat.{ℕ}
 use lib.ListN.{length, length-set}
 use lib.Seq.{sets}
 use Rattle.script.proofs.Readings.{length_three, three_stores}
-use borrow.Author.Rules.{rules}
 use Rattle.script.proofs.reading.put_asked.Goals as goal
 
 pub bounds-codes-at-2 : goal.bounds-codes-at-2

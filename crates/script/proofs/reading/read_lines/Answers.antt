@@ -1,10 +1,8 @@
-use borrow.Author.Rules.{rules}
 use native.Mathlib.Omega.{arith}
-use Prim.Native.Nat.{◌-◌}
 use mathlib.Core.Path.{ap, ◌∙◌}
 use lib.ListN.{length}
 use Rattle.script.specs.Lines.{line_of}
-use Rattle.script.proofs.Readings.{all_read, line_read, none_read, Reading}
+use Rattle.script.proofs.Readings.{all_read, line_read, none_read}
 use Rattle.ground.proofs.Tests.{both_below}
 use Rattle.script.proofs.reading.read_lines.Goals as goal
 
@@ -28,7 +26,7 @@ loop-lines-preserved c =
     let a = c.args in
     let at = c.loop-lines in
     let test = both_below at.lines a.most at.at (length a.script.now) c.loop-lines-test.true in
-    let line = c.Line-of.ensures ∙ ap line_of c.line_at_lem.ensures in
+    let line = c.line_of.ensures ∙ ap line_of c.line_at.ensures in
     rw c.past_line-at.ensures (line_read a.script.now a.start a.most a.codes.now at.codes at.at at.lines at.invariant _ test.0 test.1 line c.put_asked.ensures)
 
 pub shape_of-codes : goal.shape_of-codes

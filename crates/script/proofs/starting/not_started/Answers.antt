@@ -1,5 +1,4 @@
 use Rattle.table.specs.Fresh.{fresh_table_of}
-use borrow.Author.Rules.{rules}
 use Rattle.script.proofs.starting.not_started.Goals as goal
 
 pub returns : goal.returns

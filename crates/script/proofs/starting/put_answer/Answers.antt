@@ -2,7 +2,6 @@ use borrow.Author.Tests.{lt-ltb, le-ltb}
 use lib.ListN.{length}
 use Rattle.script.specs.Starting.{answer_line, step_room}
 use Rattle.script.proofs.Puts.{from_start}
-use borrow.Author.Rules.{rules}
 use Rattle.script.proofs.starting.put_answer.Goals as goal
 
 pub returns-then-out-lt-STEP_ROOM : goal.returns-then-out-lt-STEP_ROOM

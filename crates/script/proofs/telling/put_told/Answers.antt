@@ -1,9 +1,8 @@
-use borrow.Author.Rules.{rules}
 use native.Mathlib.Omega.{arith}
-use Prim.Native.Nat.{◌+◌, ◌-◌, ◌≤◌}
-use mathlib.Core.Path.{◌≡◌, refl, ap, ◌∙◌}
+use Prim.Native.Nat.{◌+◌}
+use mathlib.Core.Path.{refl, ap, ◌∙◌}
 use lib.ListN.{length}
-use lib.Seq.{sets, length-sets}
+use lib.Seq.{length-sets}
 use Rattle.script.specs.Telling.{lines_of_told}
 use Rattle.script.proofs.Tells.{all_said, said_none, said_short, said_turn}
 use Rattle.script.proofs.telling.put_told.Goals as goal
@@ -15,22 +14,22 @@ pub overflow_add-first : goal.overflow_add-first
 overflow_add-first c = omega (arith, c.requires.2)
 
 pub overflow_mul-k : goal.overflow_mul-k
-overflow_mul-k c = omega (arith, c.requires.0, c.well-formed)
+overflow_mul-k c = omega (arith, c.requires.0, c.well_formed)
 
 pub offset_bounds-told-k : goal.offset_bounds-told-k
-offset_bounds-told-k c = omega (arith, c.requires.0, c.well-formed)
+offset_bounds-told-k c = omega (arith, c.requires.0, c.well_formed)
 
 pub bounds-told-k : goal.bounds-told-k
 bounds-told-k c = omega (arith, c.requires.0)
 
 pub overflow_mul-k-in-loop-k : goal.overflow_mul-k-in-loop-k
-overflow_mul-k-in-loop-k c = omega (arith, c.requires.0, c.well-formed)
+overflow_mul-k-in-loop-k c = omega (arith, c.requires.0, c.well_formed)
 
 pub overflow_add-k : goal.overflow_add-k
-overflow_add-k c = omega (arith, c.requires.0, c.well-formed)
+overflow_add-k c = omega (arith, c.requires.0, c.well_formed)
 
 pub offset_bounds-told-k-in-loop-k : goal.offset_bounds-told-k-in-loop-k
-offset_bounds-told-k-in-loop-k c = omega (arith, c.requires.0, c.well-formed)
+offset_bounds-told-k-in-loop-k c = omega (arith, c.requires.0, c.well_formed)
 
 pub bounds-told-k-in-loop-k : goal.bounds-told-k-in-loop-k
 bounds-told-k-in-loop-k c = omega (arith, c.requires.0)

@@ -1,11 +1,8 @@
-use borrow.Author.Rules.{rules}
-use native.Mathlib.Omega.{arith}
 use Prim.Native.Nat.{◌+◌, ◌-◌, ◌≤◌}
-use mathlib.Core.Path.{◌≡◌, refl, ap, ◌∙◌}
+use mathlib.Core.Path.{◌≡◌}
 use lib.ListN.{length}
-use lib.Seq.{sets, length-sets}
+use lib.Seq.{sets}
 use Rattle.script.specs.Telling.{lines_of_told}
-use Rattle.script.proofs.Tells.{all_said, said_none, said_short, said_turn}
 use Rattle.script.proofs.telling.put_told.Given as goal
 
 abbrev pub invariant-loop-k : goal.invariant-loop-k

@@ -1,24 +1,8 @@
-use Prim.Native.Nat.{ℕ, ◌≤◌, ◌<◌, ◌-◌, ◌^◌}
-use mathlib.Core.Path.{◌≡◌, refl, sym, ◌∙◌}
+use mathlib.Core.Path.{refl, sym, ◌∙◌}
 use native.Mathlib.Omega.{arith}
-use borrow.Author.Rules.{rules}
-use borrow.Author.Tests.{not-true, not-false}
-use lib.ListN.{length, drop, get_or}
-use Rattle.script.specs.Words.{is_digit}
-use Rattle.script.specs.Parts.{digits_of}
+use lib.ListN.{get_or}
 use Rattle.script.proofs.Digits.{digit_range, digits_on, digits_off, digits_ended, room, grown}
-use Rattle.script.proofs.words.digits_of.Goals.{Else-not-digit}
 use Rattle.script.proofs.words.digits_of.Goals as goal
-
--- past the test the byte is a digit, and the number has room for it
-abbrev byte : Else-not-digit invariant-loop decreases-loop → ℕ
-byte c = get_or c.args.word.now c.loop-k.k 0
-
-in_range : (c : Else-not-digit invariant-loop decreases-loop) → (48 ≤ byte c) × (byte c ≤ 57)
-in_range c = digit_range (byte c) (not-false (is_digit (byte c)) c.if-not-digit.false)
-
-spare : (c : Else-not-digit invariant-loop decreases-loop) → c.loop-k.sofar < 10 ^ 9
-spare c = let at = c.loop-k in room at.k at.sofar (omega arith) at.invariant.2
 
 pub loop-k-init : goal.loop-k-init
 loop-k-init c = (omega arith, refl, omega arith)
@@ -29,23 +13,23 @@ returns-then-not-digit c =
     sym (digits_off _ at.k at.sofar (omega arith) (c.if-not-digit.true)) ∙ at.invariant.1
 
 pub overflow_mul-sofar : goal.overflow_mul-sofar
-overflow_mul-sofar c = omega (arith, spare c)
+overflow_mul-sofar c = omega (arith, room c.loop-k.k c.loop-k.sofar (omega arith) c.loop-k.invariant.2)
 
 pub overflow_sub-sofar : goal.overflow_sub-sofar
-overflow_sub-sofar c = (in_range c).0
+overflow_sub-sofar c = (digit_range (get_or c.args.word.now c.loop-k.k 0) c.if-not-digit.false).0
 
 pub overflow_cast-sofar : goal.overflow_cast-sofar
-overflow_cast-sofar c = omega (arith, in_range c)
+overflow_cast-sofar c = omega (arith, digit_range (get_or c.args.word.now c.loop-k.k 0) c.if-not-digit.false)
 
 pub overflow_add-sofar : goal.overflow_add-sofar
-overflow_add-sofar c = omega (arith, in_range c, spare c)
+overflow_add-sofar c = omega (arith, digit_range (get_or c.args.word.now c.loop-k.k 0) c.if-not-digit.false, room c.loop-k.k c.loop-k.sofar (omega arith) c.loop-k.invariant.2)
 
 pub loop-k-preserved : goal.loop-k-preserved
 loop-k-preserved c =
     let at = c.loop-k in (
       omega arith,
       sym (digits_on _ at.k at.sofar (omega arith) (c.if-not-digit.false)) ∙ at.invariant.1,
-      grown at.k at.sofar _ at.invariant.2 (omega (arith, in_range c)),
+      grown at.k at.sofar _ at.invariant.2 (omega (arith, digit_range (get_or c.args.word.now c.loop-k.k 0) c.if-not-digit.false)),
     )
 
 pub returns : goal.returns

@@ -1,12 +1,7 @@
-use Prim.Native.Nat.{ℕ, ◌≤◌, ◌<◌, ◌-◌, ◌^◌}
-use mathlib.Core.Path.{◌≡◌, refl, sym, ◌∙◌}
-use native.Mathlib.Omega.{arith}
-use borrow.Author.Rules.{rules}
-use borrow.Author.Tests.{not-true, not-false}
-use lib.ListN.{length, drop, get_or}
-use Rattle.script.specs.Words.{is_digit}
+use Prim.Native.Nat.{◌≤◌, ◌<◌, ◌-◌, ◌^◌}
+use mathlib.Core.Path.{◌≡◌}
+use lib.ListN.{length, drop}
 use Rattle.script.specs.Parts.{digits_of}
-use Rattle.script.proofs.Digits.{digit_range, digits_on, digits_off, digits_ended, room, grown}
 use Rattle.script.proofs.words.digits_of.Given as goal
 
 abbrev pub invariant-loop-k : goal.invariant-loop-k

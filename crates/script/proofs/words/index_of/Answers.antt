@@ -1,9 +1,5 @@
-use Prim.Native.Nat.{◌+◌, ◌≤◌, ◌-◌}
-use mathlib.Core.Path.{◌≡◌, sym, ◌∙◌}
+use mathlib.Core.Path.{sym, ◌∙◌}
 use native.Mathlib.Omega.{arith}
-use borrow.Author.Rules.{rules}
-use lib.ListN.{length, drop}
-use Rattle.script.specs.Words.{index_of}
 use Rattle.script.proofs.Cutting.{index_here, index_on, index_none}
 use Rattle.script.proofs.words.index_of.Goals as goal
 

@@ -1,10 +1,7 @@
 use Prim.Native.Nat.{◌+◌, ◌≤◌, ◌-◌}
-use mathlib.Core.Path.{◌≡◌, sym, ◌∙◌}
-use native.Mathlib.Omega.{arith}
-use borrow.Author.Rules.{rules}
+use mathlib.Core.Path.{◌≡◌}
 use lib.ListN.{length, drop}
 use Rattle.script.specs.Words.{index_of}
-use Rattle.script.proofs.Cutting.{index_here, index_on, index_none}
 use Rattle.script.proofs.words.index_of.Given as goal
 
 abbrev pub invariant-loop-k : goal.invariant-loop-k

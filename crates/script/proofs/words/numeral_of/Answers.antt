@@ -1,6 +1,5 @@
 use mathlib.Core.Path.{sym, ◌∙◌}
 use native.Mathlib.Omega.{arith}
-use borrow.Author.Rules.{rules}
 use Rattle.script.proofs.Digits.{numeral_empty, numeral_long, numeral_zero, numeral_digits}
 use Rattle.script.proofs.words.numeral_of.Goals as goal
 

@@ -1,5 +1,4 @@
 use native.Mathlib.Omega.{arith}
-use borrow.Author.Rules.{rules}
 use Rattle.script.proofs.Cutting.{behind, behind_none}
 use Rattle.script.proofs.words.rest_of.Goals as goal
 

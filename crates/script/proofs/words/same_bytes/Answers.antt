@@ -1,9 +1,5 @@
-use Prim.Native.Nat.{◌≤◌, ◌-◌}
-use mathlib.Core.Path.{◌≡◌, refl, sym, ◌∙◌}
+use mathlib.Core.Path.{refl, sym, ◌∙◌}
 use native.Mathlib.Omega.{arith}
-use borrow.Author.Rules.{rules}
-use lib.ListN.{length, drop}
-use Rattle.script.specs.Words.{same_bytes}
 use Rattle.script.proofs.Sameness.{same_on, same_off, same_ended, same_lengths}
 use Rattle.script.proofs.words.same_bytes.Goals as goal
 

@@ -1,10 +1,7 @@
 use Prim.Native.Nat.{◌≤◌, ◌-◌}
-use mathlib.Core.Path.{◌≡◌, refl, sym, ◌∙◌}
-use native.Mathlib.Omega.{arith}
-use borrow.Author.Rules.{rules}
+use mathlib.Core.Path.{◌≡◌}
 use lib.ListN.{length, drop}
 use Rattle.script.specs.Words.{same_bytes}
-use Rattle.script.proofs.Sameness.{same_on, same_off, same_ended, same_lengths}
 use Rattle.script.proofs.words.same_bytes.Given as goal
 
 abbrev pub invariant-loop-k : goal.invariant-loop-k

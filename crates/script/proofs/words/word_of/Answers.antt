@@ -1,4 +1,3 @@
-use borrow.Author.Rules.{rules}
 use Rattle.script.proofs.Cutting.{front, front_length}
 use Rattle.script.proofs.words.word_of.Goals as goal
 

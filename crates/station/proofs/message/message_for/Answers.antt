@@ -5,7 +5,6 @@ use Rattle.ground.proofs.Choices.{when_refused}
 use Rattle.rules.specs.Message.{no_message}
 use Rattle.station.proofs.Answering.{shown}
 use Rattle.station.proofs.Parts.{station_parts}
-use borrow.Author.Rules.{rules}
 use Rattle.station.proofs.message.message_for.Goals as goal
 
 pub returns-then-answer-ne-DONE : goal.returns-then-answer-ne-DONE

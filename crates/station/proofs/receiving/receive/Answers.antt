@@ -1,6 +1,5 @@
 use mathlib.Core.Path.{◌∙◌}
 use Rattle.station.proofs.ByRules.{receive_unmet}
-use borrow.Author.Rules.{rules}
 use Rattle.station.proofs.receiving.receive.Goals as goal
 
 pub returns-then-answer-ne-DONE : goal.returns-then-answer-ne-DONE

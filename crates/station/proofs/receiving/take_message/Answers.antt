@@ -6,7 +6,6 @@ use Rattle.rules.specs.Taking.{taken_of}
 use Rattle.station.proofs.Answering.{met}
 use Rattle.station.proofs.ByRules.{receive_refused, receive_done}
 use Rattle.station.proofs.Parts.{message_parts}
-use borrow.Author.Rules.{rules}
 use Rattle.station.proofs.receiving.take_message.Goals as goal
 
 pub side_for-requires : goal.side_for-requires

@@ -1,5 +1,4 @@
-use Rattle.std.proofs.Common.{ap, sym, ◌∙◌, arith, rules}
-use Rattle.ground.specs.Below.{all_below}
+use Rattle.std.proofs.Common.{sym, arith, rules}
 use Rattle.station.specs.Sound.{cells_sound}
 use Rattle.ground.proofs.Below.{all_none, all_more}
 use Rattle.station.proofs.sound.cells_are_sound.Goals as goal
@@ -16,6 +15,3 @@ loop-k-preserved c =
           rw (c.slot_is_sound.ensures, c.token_is_sound.ensures, c.holds_nothing.ensures, at.invariant.so_far)
           (sym (all_more (cells_sound c.args.s) at.k));
     }
-
-pub returns : goal.returns
-returns c = let at = c.loop-k in at.invariant.so_far ∙ ap (all_below (cells_sound c.args.s)) (omega arith)

@@ -1,5 +1,4 @@
 use Rattle.station.specs.Sound.{message_sound}
-use borrow.Author.Rules.{rules}
 use Rattle.station.proofs.sound.message_is_sound.Goals as goal
 
 pub returns : goal.returns

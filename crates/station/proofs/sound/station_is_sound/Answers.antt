@@ -1,5 +1,4 @@
 use Rattle.station.specs.Sound.{station_sound}
-use borrow.Author.Rules.{rules}
 use Rattle.station.proofs.sound.station_is_sound.Goals as goal
 
 pub returns : goal.returns

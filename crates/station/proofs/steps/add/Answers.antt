@@ -1,7 +1,5 @@
 use mathlib.Core.Path.{sym, ◌∙◌}
-use borrow.Author.Tests.{not-true, not-false}
 use Rattle.station.proofs.ByRules.{add_by_stock, unsound_add}
-use borrow.Author.Rules.{rules}
 use Rattle.station.proofs.steps.add.Goals as goal
 
 pub returns-then-not-station_is_sound : goal.returns-then-not-station_is_sound

@@ -2,7 +2,6 @@ use mathlib.Core.Path.{sym, ◌∙◌}
 use Rattle.rules.specs.Report.{no_report}
 use Rattle.station.specs.Steps.{fresh_of, fresh_answer, blank, told}
 use Rattle.ground.proofs.Choices.{when_done, when_refused}
-use borrow.Author.Rules.{rules}
 use Rattle.station.proofs.steps.fresh.Goals as goal
 
 pub returns-then-answer-ne-DONE : goal.returns-then-answer-ne-DONE

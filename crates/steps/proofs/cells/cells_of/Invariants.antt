@@ -1,14 +1,9 @@
-use Prim.Native.Nat.{ℕ, ◌-◌, ◌/◌, ◌%◌, ◌<◌, ◌≤◌}
-use mathlib.Core.Path.{◌≡◌, refl, sym, ◌∙◌, ap}
-use mathlib.Core.Logic.{⊎_elim}
-use native.Mathlib.Omega.{arith}
-use borrow.Author.Rules.{rules}
-use lib.ListN.{length, get_or, length-set}
-use lib.Seq.{ext_get_or}
+use Prim.Native.Nat.{ℕ, ◌-◌, ◌/◌, ◌<◌, ◌≤◌}
+use mathlib.Core.Path.{◌≡◌}
+use lib.ListN.{length, get_or}
 use Rattle.table.specs.Table.{station_in}
-use Rattle.steps.specs.Cells.{cells_for, cells_of}
-use Rattle.ground.proofs.Stores.{one_more}
-use Rattle.steps.proofs.Held.{no_cells, cells_length, cell_there}
+use Rattle.steps.specs.Cells.{cells_of}
+use Rattle.steps.proofs.Held.{no_cells}
 use Rattle.steps.proofs.cells.cells_of.Given as goal
 
 -- the station at hand is the one whose cell was last put

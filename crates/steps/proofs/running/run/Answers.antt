@@ -1,15 +1,9 @@
 use mathlib.Core.Path.{sym, ◌∙◌}
-use native.Mathlib.Omega.{arith}
-use borrow.Author.Tests.{not-true, not-false}
 use Rattle.steps.proofs.Ran.{ran_refused, ran_done}
-use borrow.Author.Rules.{rules}
 use Rattle.steps.proofs.running.run.Goals as goal
 
 pub returns-then-not-table_is_sound : goal.returns-then-not-table_is_sound
 returns-then-not-table_is_sound c = ran_refused c.args.t c.args.codes.now c.args.told.now (sym c.table_is_sound.ensures ∙ c.if-not-table_is_sound.true)
-
-pub run_sound-requires : goal.run_sound-requires
-run_sound-requires c = let steps = c.smaller-steps in (sym c.table_is_sound.ensures ∙ c.if-not-table_is_sound.false, omega (arith, steps.ensures), omega (arith, steps.ensures))
 
 pub returns : goal.returns
 returns c = ran_done c.args.t c.args.codes.now c.args.told.now (sym c.table_is_sound.ensures ∙ c.if-not-table_is_sound.false) c.smaller-steps.ensures c.run_sound.ensures

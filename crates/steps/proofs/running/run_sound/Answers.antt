@@ -1,5 +1,5 @@
 -- One turn of the loop: what was looked up, what the plan changed, and the two rows kept beside it.
-use Rattle.std.proofs.Common.{◌≡◌, ℕ, ◌+◌, ◌*◌, List, get_or, refl, sym, ap, ◌∙◌}
+use Rattle.std.proofs.Common.{◌≡◌, ◌+◌, ◌*◌, List, get_or, refl, sym, ap, ◌∙◌}
 use Rattle.station.specs.Side.{side_for}
 use Rattle.station.specs.Steps.{put_stock}
 use Rattle.steps.specs.declared.cells.Cells.{Cells}

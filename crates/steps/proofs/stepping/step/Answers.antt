@@ -1,5 +1,4 @@
 use Rattle.steps.proofs.Ran.{numbered, one_refused, one_done}
-use borrow.Author.Rules.{rules}
 use Rattle.steps.proofs.stepping.step.Goals as goal
 
 pub returns-then-ran-ne-DONE : goal.returns-then-ran-ne-DONE

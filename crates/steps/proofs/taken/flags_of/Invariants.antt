@@ -1,12 +1,7 @@
 use Prim.Native.Nat.{ℕ, ◌-◌, ◌<◌, ◌≤◌}
-use mathlib.Core.Path.{◌≡◌, refl, sym, ◌∙◌}
-use native.Mathlib.Omega.{arith}
-use borrow.Author.Rules.{rules}
-use lib.ListN.{length, get_or, length-set}
-use lib.Seq.{ext_get_or}
+use mathlib.Core.Path.{◌≡◌}
+use lib.ListN.{length, get_or}
 use Rattle.steps.specs.Looking.{flags_of}
-use Rattle.steps.proofs.Flags.{flag_at, length_flags}
-use Rattle.ground.proofs.Stores.{one_more}
 use Rattle.steps.proofs.taken.flags_of.Given as goal
 
 abbrev pub invariant-loop-p : goal.invariant-loop-p

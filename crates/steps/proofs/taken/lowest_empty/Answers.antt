@@ -1,22 +1,16 @@
-use Prim.Native.Nat.{ℕ, ◌≤◌, ◌-◌, ◌+◌}
-use mathlib.Core.Path.{◌≡◌, refl, sym, ◌∙◌}
+use Prim.Native.Nat.{ℕ, ◌-◌, ◌+◌}
+use mathlib.Core.Path.{◌≡◌, sym, ◌∙◌}
 use mathlib.Core.Bool.{Bool}
 use mathlib.Core.List.{List}
 use native.Mathlib.Omega.{arith}
-use borrow.Author.Rules.{rules}
 use borrow.Author.Tests.{eq-eqb, ne_eqb}
 use lib.Dec.{eqb}
 use lib.ListN.{get_or}
-use Rattle.ground.specs.First.{first_from}
-use Rattle.steps.specs.Looking.{lowest_zero}
 use Rattle.ground.proofs.First.{first_none, first_here, first_later}
 use Rattle.steps.proofs.taken.lowest_empty.Goals as goal
 
 abbrev test : List ℕ → ℕ → Bool
 test taken p = eqb (get_or taken p 0) 0
-
-pub loop-p-init : goal.loop-p-init
-loop-p-init c = (search rules, refl)
 
 pub loop-p-preserved : goal.loop-p-preserved
 loop-p-preserved c =

@@ -1,7 +1,5 @@
-use mathlib.Core.Path.{◌≡◌, ap, ◌∙◌}
 use native.Mathlib.Omega.{arith}
 use borrow.Author.Rules.{rules}
-use Prim.Native.Nat.{◌≤◌, ◌-◌}
 use native.Mathlib.Numerals.{add-one}
 use Rattle.table.specs.Fresh.{seats_to}
 use Rattle.table.proofs.fresh.fresh_seats.Goals as goal
@@ -13,6 +11,3 @@ loop-k-init c = (search rules, rw c.blank_station-none.ensures)
 pub loop-k-preserved : goal.loop-k-preserved
 unfolding seats_to
 loop-k-preserved c = let at = c.loop-k in (omega arith, rw (at.invariant.1, c.blank_station.ensures, add-one at.k))
-
-pub returns : goal.returns
-returns c = let at = c.loop-k in at.invariant.1 ∙ ap (seats_to c.args.count) (omega arith)

@@ -1,9 +1,8 @@
-use mathlib.Core.Path.{◌≡◌, ap, sym, ◌∙◌}
+use mathlib.Core.Path.{sym}
 use native.Mathlib.Omega.{arith}
 use borrow.Author.Rules.{rules}
-use Prim.Native.Nat.{ℕ, ◌≤◌, ◌-◌}
+use Prim.Native.Nat.{ℕ}
 use mathlib.Core.Bool.{Bool}
-use Rattle.ground.specs.Below.{all_below}
 use mathlib.Core.List.{List}
 use Rattle.pool.specs.declared.places.Place.{Place}
 use Rattle.ground.proofs.Below.{all_none, all_more}
@@ -21,6 +20,3 @@ pub loop-p-preserved : goal.loop-p-preserved
 loop-p-preserved c =
     let at = c.loop-p in
     (omega arith, rw (c.place_is_sound-sound.ensures, at.invariant.1) (sym (all_more _ at.p)))
-
-pub returns : goal.returns
-returns c = c.loop-p.invariant.1 ∙ ap (all_below _) (omega arith)

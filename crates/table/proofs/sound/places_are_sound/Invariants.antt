@@ -1,12 +1,9 @@
-use mathlib.Core.Path.{◌≡◌, ap, sym, ◌∙◌}
-use native.Mathlib.Omega.{arith}
-use borrow.Author.Rules.{rules}
+use mathlib.Core.Path.{◌≡◌}
 use Prim.Native.Nat.{ℕ, ◌≤◌, ◌-◌}
 use mathlib.Core.Bool.{Bool}
 use Rattle.ground.specs.Below.{all_below}
 use mathlib.Core.List.{List}
 use Rattle.pool.specs.declared.places.Place.{Place}
-use Rattle.ground.proofs.Below.{all_none, all_more}
 use Rattle.pool.specs.Pool.{place_in}
 use Rattle.table.specs.Sound.{place_sound}
 use Rattle.table.proofs.sound.places_are_sound.Given as goal

@@ -1,9 +1,8 @@
-use mathlib.Core.Path.{◌≡◌, ap, sym, ◌∙◌}
+use mathlib.Core.Path.{sym}
 use native.Mathlib.Omega.{arith}
 use borrow.Author.Rules.{rules}
-use Prim.Native.Nat.{ℕ, ◌≤◌, ◌-◌}
+use Prim.Native.Nat.{ℕ}
 use mathlib.Core.Bool.{Bool}
-use Rattle.ground.specs.Below.{all_below}
 use mathlib.Core.List.{List}
 use Rattle.station.specs.declared.station.Station.{Station}
 use Rattle.ground.proofs.Below.{all_none, all_more}
@@ -21,6 +20,3 @@ pub loop-k-preserved : goal.loop-k-preserved
 loop-k-preserved c =
     let at = c.loop-k in
     (omega arith, rw (c.seat_is_sound-sound.ensures, at.invariant.1) (sym (all_more _ at.k)))
-
-pub returns : goal.returns
-returns c = c.loop-k.invariant.1 ∙ ap (all_below _) (omega arith)

@@ -1,12 +1,9 @@
-use mathlib.Core.Path.{◌≡◌, ap, sym, ◌∙◌}
-use native.Mathlib.Omega.{arith}
-use borrow.Author.Rules.{rules}
+use mathlib.Core.Path.{◌≡◌}
 use Prim.Native.Nat.{ℕ, ◌≤◌, ◌-◌}
 use mathlib.Core.Bool.{Bool}
 use Rattle.ground.specs.Below.{all_below}
 use mathlib.Core.List.{List}
 use Rattle.station.specs.declared.station.Station.{Station}
-use Rattle.ground.proofs.Below.{all_none, all_more}
 use Rattle.table.specs.Table.{station_in}
 use Rattle.table.specs.Sound.{seat_sound}
 use Rattle.table.proofs.sound.seats_are_sound.Given as goal

@@ -1,5 +1,4 @@
 use Rattle.table.specs.Sound.{table_sound}
-use borrow.Author.Rules.{rules}
 use Rattle.table.proofs.sound.table_is_sound.Goals as goal
 
 pub returns : goal.returns

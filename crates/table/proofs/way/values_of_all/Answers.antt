@@ -1,11 +1,9 @@
-use mathlib.Core.Path.{◌≡◌, ap, sym, ◌∙◌}
+use mathlib.Core.Path.{sym}
 use native.Mathlib.Omega.{arith}
 use borrow.Author.Rules.{rules}
-use Prim.Native.Nat.{ℕ, ◌≤◌, ◌-◌, ◌*◌}
-use Rattle.ground.specs.Limits.{most_value}
+use Prim.Native.Nat.{ℕ}
 use Rattle.table.specs.declared.table.Table.{Table}
 use Rattle.table.specs.Table.{station_at}
-use Rattle.ground.specs.Sums.{sum_below}
 use Rattle.table.proofs.Tables.{table_parts}
 use Rattle.ground.proofs.Sums.{sum_none, sum_more}
 use Rattle.table.proofs.Sums.{station_sound_lem}
@@ -16,16 +14,6 @@ value t k = (station_at t k).value
 
 pub loop-k-init : goal.loop-k-init
 loop-k-init c = (search rules, sym (sum_none _), search rules)
-
-pub offset_bounds-t-k : goal.offset_bounds-t-k
-offset_bounds-t-k c =
-    let m = (table_parts c.args.t c.requires).most in
-    omega arith
-
-pub bounds-t-k : goal.bounds-t-k
-bounds-t-k c =
-    let m = (table_parts c.args.t c.requires).most in
-    omega arith
 
 pub overflow_add-sum : goal.overflow_add-sum
 overflow_add-sum c =
@@ -41,6 +29,3 @@ loop-k-preserved c =
     let at = c.loop-k in
     let v = (station_sound_lem t c.requires at.k c.loop-k-test.true).value in
     (omega arith, rw at.invariant.1 (sym (sum_more (value t) at.k)), omega (arith, v, at.invariant.2))
-
-pub returns : goal.returns
-returns c = let at = c.loop-k in at.invariant.1 ∙ ap (sum_below (value c.args.t)) (omega arith)

@@ -1,14 +1,9 @@
-use mathlib.Core.Path.{◌≡◌, ap, sym, ◌∙◌}
-use native.Mathlib.Omega.{arith}
-use borrow.Author.Rules.{rules}
+use mathlib.Core.Path.{◌≡◌}
 use Prim.Native.Nat.{ℕ, ◌≤◌, ◌-◌, ◌*◌}
 use Rattle.ground.specs.Limits.{most_value}
 use Rattle.table.specs.declared.table.Table.{Table}
 use Rattle.table.specs.Table.{station_at}
 use Rattle.ground.specs.Sums.{sum_below}
-use Rattle.table.proofs.Tables.{table_parts}
-use Rattle.ground.proofs.Sums.{sum_none, sum_more}
-use Rattle.table.proofs.Sums.{station_sound_lem}
 use Rattle.table.proofs.way.values_of_all.Given as goal
 
 abbrev value : Table → ℕ → ℕ

@@ -1,8 +1,6 @@
-use mathlib.Core.Path.{◌≡◌, ap, sym, ◌∙◌}
+use mathlib.Core.Path.{ap, sym, ◌∙◌}
 use native.Mathlib.Omega.{arith}
 use borrow.Author.Rules.{rules}
-use Prim.Native.Nat.{◌≤◌, ◌-◌, ◌*◌}
-use Rattle.ground.specs.Limits.{most_value}
 use Rattle.ground.specs.Sums.{sum_below}
 use Rattle.table.proofs.Tables.{table_parts}
 use Rattle.table.specs.Way.{between}
@@ -10,48 +8,8 @@ use Rattle.ground.proofs.Sums.{sum_none, sum_more}
 use Rattle.table.proofs.Sums.{between_small}
 use Rattle.table.proofs.way.way_from.Goals as goal
 
-pub offset_bounds-t-i : goal.offset_bounds-t-i
-offset_bounds-t-i c =
-    let m = (table_parts c.args.t c.requires.0).most in
-    omega (arith, c.requires.1)
-
-pub bounds-t-i : goal.bounds-t-i
-bounds-t-i c =
-    let m = (table_parts c.args.t c.requires.0).most in
-    omega (arith, c.requires.1)
-
 pub loop-j-init : goal.loop-j-init
 loop-j-init c = (search rules, sym (sum_none _), search rules)
-
-pub offset_bounds-giver-j : goal.offset_bounds-giver-j
-offset_bounds-giver-j c =
-    let m = (table_parts c.args.t c.requires.0).most in
-    omega (arith, c.requires.1)
-
-pub bounds-giver-j : goal.bounds-giver-j
-bounds-giver-j c =
-    let m = (table_parts c.args.t c.requires.0).most in
-    omega (arith, c.requires.1)
-
-pub offset_bounds-t-j : goal.offset_bounds-t-j
-offset_bounds-t-j c =
-    let m = (table_parts c.args.t c.requires.0).most in
-    omega (arith, c.requires.1)
-
-pub bounds-t-j : goal.bounds-t-j
-bounds-t-j c =
-    let m = (table_parts c.args.t c.requires.0).most in
-    omega (arith, c.requires.1)
-
-pub offset_bounds-receiver-i : goal.offset_bounds-receiver-i
-offset_bounds-receiver-i c =
-    let m = (table_parts c.args.t c.requires.0).most in
-    omega (arith, c.requires.1)
-
-pub bounds-receiver-i : goal.bounds-receiver-i
-bounds-receiver-i c =
-    let m = (table_parts c.args.t c.requires.0).most in
-    omega (arith, c.requires.1)
 
 pub overflow_add-sum : goal.overflow_add-sum
 overflow_add-sum c =

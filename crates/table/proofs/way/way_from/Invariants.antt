@@ -1,13 +1,8 @@
-use mathlib.Core.Path.{◌≡◌, ap, sym, ◌∙◌}
-use native.Mathlib.Omega.{arith}
-use borrow.Author.Rules.{rules}
+use mathlib.Core.Path.{◌≡◌}
 use Prim.Native.Nat.{◌≤◌, ◌-◌, ◌*◌}
 use Rattle.ground.specs.Limits.{most_value}
 use Rattle.ground.specs.Sums.{sum_below}
-use Rattle.table.proofs.Tables.{table_parts}
 use Rattle.table.specs.Way.{between}
-use Rattle.ground.proofs.Sums.{sum_none, sum_more}
-use Rattle.table.proofs.Sums.{between_small}
 use Rattle.table.proofs.way.way_from.Given as goal
 
 abbrev pub invariant-loop-j : goal.invariant-loop-j
