@@ -1,7 +1,7 @@
-# What every public function promises. Run with tools/listed.awk, by tools/listed, over crates.txt and
-# the source files of all crates. Fails, with file, line and function, where a public function (`pub
-# fn`, `pub extern "C" fn`, in an `impl` too) has a requires, or has not one ensures of one of two
-# forms:
+# What every public function promises. Run with tools/listed.awk, by tools/listed, over crates.txt
+# and the source files of all crates. Fails, with file, line and function, where a public function
+# (`pub fn`, `pub extern "C" fn`, in an `impl` too) has a requires, or has not one ensures of one of
+# two forms:
 #
 #     result ≡ d a b.now              only where nothing is lent to be changed
 #     P a b.now c.old result c.new    with the later content of the `&mut` parameter, of which there is at most one
@@ -9,14 +9,14 @@
 # where `d` or `P` is one name, imported from a specs module, and applied to all parameters in their
 # order: to what one that is lent holds when the call begins, to any other itself. It reads the
 # layout of rt fmt: a head begins its line with `pub fn` or `pub extern "C" fn`, has in it only its
-# parameters and its result, each clause is a line of its own, with a name or without, and then comes
-# a line that is the opening brace.
+# parameters and its result, each clause is a line of its own, with a name or without, and then
+# comes a line that is the opening brace.
 # A head, or something public, that it does not read so is a failure:
 # pub and fn on two lines, or two blanks apart; two functions on a line; another word before fn
 # (pub(in ..), pub(super), const, unsafe, another extern, an attribute); a line of comment in a
-# head, or a comment by /*; a clause on the head's own line, or on two lines; a starred clause, whose
-# text is no plain fact; no brace; a module in a module; a macro, made or called, that stands for
-# functions.
+# head, or a comment by /*; a clause on the head's own line, or on two lines; a starred clause,
+# which is no plain fact; no brace; a module in a module; a macro, made or called, that may stand
+# for functions.
 # `pub(crate) fn` is not public.
 #
 # A public function of a static library (`NAME staticlib:` in crates.txt) is an export. Its body is
@@ -78,10 +78,10 @@ function holds_name(file, module, name) {
 FILENAME ~ /(^|\/)crates\.txt$/ {
     line = $0
     sub(/#.*/, "", line)
-    if (split(line, part, /[ \t:]+/) > 1 && line ~ /^[^:]*[ \t]staticlib([ \t:]|$)/) {
-        gsub(/-/, "_", part[1])
-        static[part[1]] = 1
-    }
+    sub(/^[ \t]+/, "", line)
+    split(line, part, /[ \t:]+/)
+    if (part[1] ~ /\//) fault(here(), "a crate within a folder is not read: " part[1])
+    if (line ~ /^[^:]*[ \t]staticlib([ \t:]|$)/) static[part[1]] = 1
 }
 
 # ---- a source file, line by line
@@ -241,11 +241,18 @@ function ends_head(    key, member) {
     sub(/::/, ".", member)
     path[key] = "Rattle." crate ".specs.contracts." (module == "" ? "" : module ".") member
     result[key] = named(head, ".*\\)( -> )?\\[?")
-    signature[key] = head
+    signature[key] = one_line(head)
     reads_parameters(key)
     reads_promise(key)
     head = ""
     if (crate in static) begins_body(key)
+}
+
+# a head as it reads where it is not broken into lines
+function one_line(text) {
+    sub(/\( /, "(", text)
+    sub(/, \)/, ")", text)
+    return text
 }
 
 # ---- the body of an export
