@@ -1,20 +1,27 @@
-# What every public function promises. Run with tools/listed.awk, by tools/listed, over the source
-# files of all crates. Fails, with file, line and function, where a public function (`pub fn`, `pub
-# extern "C" fn`, in an `impl` too) has a requires, or has not one ensures of one of two forms:
+# What every public function promises. Run with tools/listed.awk, by tools/listed, over crates.txt
+# and the source files of all crates. Fails, with file, line and function, where a public function
+# (`pub fn`, `pub extern "C" fn`, in an `impl` too) has a requires, or has not one ensures of one of
+# two forms:
 #
-#     λ r. ⌜ r ≡ d a (now (b .entry)) ⌝                      only where nothing is lent to be changed
-#     λ r. ⌜ P a (now (b .entry)) r (now (b .exit)) ⌝        with the later content of the `&mut` parameter, of which there is at most one
+#     result ≡ d a b.now              only where nothing is lent to be changed
+#     P a b.now c.old result c.new    with the later content of the `&mut` parameter, of which there is at most one
 #
 # where `d` or `P` is one name, imported from a specs module, and applied to all parameters in their
-# order: to what one that is lent holds at entry, to any other itself. It reads the layout of rt
-# fmt: a head begins its line with `pub fn` or `pub extern "C" fn`, has in it only its parameters
-# and its result, each clause is a line of its own, and then comes a line that is the opening brace.
+# order: to what one that is lent holds when the call begins, to any other itself. It reads the
+# layout of rt fmt: a head begins its line with `pub fn` or `pub extern "C" fn`, has in it only its
+# parameters and its result, each clause is a line of its own, with a name or without, and then
+# comes a line that is the opening brace.
 # A head, or something public, that it does not read so is a failure:
 # pub and fn on two lines, or two blanks apart; two functions on a line; another word before fn
 # (pub(in ..), pub(super), const, unsafe, another extern, an attribute); a line of comment in a
-# head, or a comment by /*; a clause on the head's own line, or on two lines; no brace; a module in
-# a module.
+# head, or a comment by /*; a clause on the head's own line, or on two lines; a starred clause,
+# which is no plain fact; no brace; a module in a module; a macro, made or called, that may stand
+# for functions.
 # `pub(crate) fn` is not public.
+#
+# A public function of a static library (`NAME staticlib:` in crates.txt) is an export. Its body is
+# one line, the call of a function of its name by the path crate::module::name, with its parameters
+# in their order; tools/listed.awk holds it against that function.
 
 function fault(where, what) {
     print where ": " what
@@ -37,8 +44,7 @@ function between(text, begin, end,    name) {
     return name ~ /^[^ (){}.;,@"]+$/ ? name : ""
 }
 
-# `use M.{a, b as c}`: what each name of the file stands for. A crate's own modules are named as
-# another crate names them
+# `use M.{a, b as c}`: what each name of the file stands for
 function imports(line,    module, n, i, item, pair) {
     if (line !~ /^use [^ {}]+\.\{[^{}]+\}$/) {
         fault(here(), "an import is not read: " line)
@@ -47,7 +53,6 @@ function imports(line,    module, n, i, item, pair) {
     module = line
     sub(/^use /, "", module)
     sub(/\.\{.*/, "", module)
-    sub(/·specs\.specs\./, ".specs.", module)
     sub(/^[^{]*\{/, "", line)
     sub(/\}$/, "", line)
     n = split(line, item, /, */)
@@ -68,6 +73,17 @@ function holds_name(file, module, name) {
     if (meaning(file, name) != module "." name) fault(file, name " is not that of " module ": " meaning(file, name))
 }
 
+# ---- crates.txt: which crates are static libraries
+
+FILENAME ~ /(^|\/)crates\.txt$/ {
+    line = $0
+    sub(/#.*/, "", line)
+    sub(/^[ \t]+/, "", line)
+    split(line, part, /[ \t:]+/)
+    if (part[1] ~ /\//) fault(here(), "a crate within a folder is not read: " part[1])
+    if (line ~ /^[^:]*[ \t]staticlib([ \t:]|$)/) static[part[1]] = 1
+}
+
 # ---- a source file, line by line
 
 FNR == 1 && FILENAME ~ /\.rt$/ {
@@ -78,12 +94,15 @@ FNR == 1 && FILENAME ~ /\.rt$/ {
     sub(/\.rt$/, "", module)
     gsub(/\//, ".", module)
     sub(/(^|\.)(lib|main|mod)$/, "", module)
-    type = struct = head = ""
+    type = struct = head = exported = ""
 }
 
 FILENAME ~ /\.rt$/ {
     if (head != "") reads_head(code($0))
-    else reads_line(code($0))
+    else {
+        if (exported != "") reads_body(code($0))
+        reads_line(code($0))
+    }
 }
 
 # a line without its comment, its byte strings and its bytes
@@ -102,6 +121,7 @@ function reads_line(line,    why) {
     why = unread(line)
     if (why != "") fault(here(), why " not read: " line)
     else if (line ~ /^ghost use /) imports(ghostless(line))
+    else if (line ~ /^use [a-z0-9_:]+;$/) brings(line)
     else if (line ~ /^impl/) type = named(line, "impl(<[^>]*>)? ")
     else if (line ~ /^(pub(\(crate\))? )?struct /) struct = named(line, "(pub(\\(crate\\))? )?struct ")
     else if (line ~ /^}/) type = struct = ""
@@ -113,6 +133,7 @@ function reads_line(line,    why) {
 function unread(line) {
     if (line ~ /\/\*/) return "a comment by /* is"
     if (line ~ /^ *(pub )?mod [a-z0-9_]+ *\{/) return "a module in a module is"
+    if (has(line, "macro_rules") || line ~ /^[A-Za-z0-9_:]+! *[({[]/) return "a macro is"
     if (has(line, "fn") && line !~ /^ *(pub |pub\(crate\) )?(extern "C" )?fn [A-Za-z0-9_]+(<[^()]*>)?\(/) return "the head of a function is"
     if (has(line, "fn") && has(substr(line, index(line, "fn ") + 3), "fn")) return "two functions on a line are"
     if (has(line, "pub") && line !~ /^ *pub(\(crate\))? ((extern "C" )?fn|struct|enum|const|type|mod|use|[a-z][a-z0-9_]*:) /) return "what is public here is"
@@ -123,6 +144,18 @@ function ghostless(line) {
     sub(/^ghost /, "", line)
     sub(/;$/, "", line)
     return line
+}
+
+# `use a::b;`: the path that b stands for
+function brings(line) {
+    sub(/^use /, "", line)
+    sub(/;$/, "", line)
+    brought[FILENAME, last_part(line)] = line
+}
+
+function last_part(way) {
+    sub(/.*::/, "", way)
+    return way
 }
 
 # the name that comes after what a pattern describes
@@ -183,7 +216,7 @@ function reads_signature(line) {
 
 function reads_clause(line) {
     sub(/^ +/, "", line)
-    if (line ~ /^(requires|ensures) \{.*\}$/) clause[++clauses] = line
+    if (line ~ /^(requires|ensures)\*?( [a-z][a-z0-9_]*)? \{.*\}$/) clause[++clauses] = line
     else stops_head("a line of its head is not read: " line)
 }
 
@@ -192,22 +225,69 @@ function stops_head(why) {
     head = ""
 }
 
-# a function is known by its key, crate·function or crate·Type·method, with - for _
+# a function is known by its key, crate-function or crate-Type-method, and by its place,
+# crate::module::function
 function ends_head(    key, member) {
     member = type == "" ? name : type "::" name
-    key = crate "·" member
-    sub(/::/, "·", key)
-    gsub(/_/, "-", key)
+    key = crate "-" member
+    sub(/::/, "-", key)
     if (key in function_at) fault(at, crate "::" member ": another function has the key " key)
     function_at[key] = at
     keys[++functions] = key
     label[key] = crate "::" member
+    place[key] = crate "::" (module == "" ? "" : module "::") member
+    gsub(/\./, "::", place[key])
+    if (!(crate in static)) at_place[place[key]] = key
     sub(/::/, ".", member)
-    path[key] = "Rattle·" crate ".proofs." (module == "" ? "" : module ".") member
+    path[key] = "Rattle." crate ".specs.contracts." (module == "" ? "" : module ".") member
     result[key] = named(head, ".*\\)( -> )?\\[?")
+    signature[key] = one_line(head)
     reads_parameters(key)
     reads_promise(key)
     head = ""
+    if (crate in static) begins_body(key)
+}
+
+# a head as it reads where it is not broken into lines
+function one_line(text) {
+    sub(/\( /, "(", text)
+    sub(/, \)/, ")", text)
+    return text
+}
+
+# ---- the body of an export
+
+function begins_body(key) {
+    exports++
+    exported = key
+    body[key] = calls[key] = ""
+}
+
+function reads_body(line) {
+    if (line == margin "}") ends_body(exported)
+    else {
+        sub(/^ +/, "", line)
+        if (line != "") body[exported] = body[exported] (body[exported] == "" ? "" : " ") line
+    }
+}
+
+# what it calls, if that is all that it does
+function ends_body(key,    text, args, i, way, first) {
+    for (i = 1; i <= count[key]; i++) args = args (i > 1 ? ", " : "") named_so[key, i]
+    text = body[key]
+    exported = ""
+    if (!ends(text, "(" args ")")) return
+    way = substr(text, 1, length(text) - length(args) - 2)
+    if (way !~ /^[a-z0-9_:]+$/) return
+    first = way
+    sub(/::.*/, "", first)
+    if ((FILENAME, first) in brought) way = brought[FILENAME, first] substr(way, length(first) + 1)
+    calls[key] = way
+}
+
+BEGIN {
+    # what antt reserves, and a clause quotes
+    reserved = "^(data|record|deriving|module|where|use|mod|pub|package|open|as|unfoldable|abbrev|axiom|unfold|unfolding|ruleset|mutual|infix|infixl|infixr|elim|let|in|do|coe|fcoe|tcoe|hcom|com)$"
 }
 
 # each parameter's name, as a clause writes it, and how it is passed: by value, lent, or lent to be
@@ -222,50 +302,54 @@ function reads_parameters(key,    text, i, part) {
         sub(/^(&('[a-z]+ )?)?(mut )?/, "", part[i])
         if (part[i] !~ /^(self|[a-z][a-z0-9_]*: .+)$/) fault(at, label[key] ": a parameter is not read: " part[i])
         sub(/:.*/, "", part[i])
-        if (part[i] == "r") fault(at, label[key] ": a parameter is named r, as the result is")
-        parameter[key, i] = part[i] ~ /_/ ? "«" part[i] "»" : part[i]
+        if (part[i] ~ /^(r|result)$/) fault(at, label[key] ": a parameter is named " part[i] ", as the result is")
+        named_so[key, i] = part[i]
+        parameter[key, i] = part[i] ~ reserved ? "«" part[i] "»" : part[i]
     }
 }
 
 # ---- its promise
 
-# the parameters in their order, each after a blank, and one that is lent between a beginning and an
-# end
-function arguments(key, begin, end,    i, text) {
-    for (i = 1; i <= count[key]; i++) text = text " " (how[key, i] == "value" ? parameter[key, i] : begin parameter[key, i] end)
+# the parameters in their order, each after a blank; after one that is lent, and one that is lent to
+# be changed, what is read of it
+function arguments(key, lent, changed,    i, text) {
+    for (i = 1; i <= count[key]; i++) text = text " " parameter[key, i] (how[key, i] == "lent" ? lent : how[key, i] == "changed" ? changed : "")
     return text
 }
 
 # the parameters that are lent to be changed
-function later(key, begin, end,    i, text) {
-    for (i = 1; i <= count[key]; i++) if (how[key, i] == "changed") text = text " " begin parameter[key, i] end
+function later(key, end,    i, text) {
+    for (i = 1; i <= count[key]; i++) if (how[key, i] == "changed") text = text " " parameter[key, i] end
     return text
 }
 
 function changes(key) {
-    return later(key, "", "") != ""
+    return later(key, "") != ""
 }
 
-function reads_promise(key,    i, args, cited) {
+function reads_promise(key,    i, args, said, cited) {
     for (i = 1; i <= clauses; i++) if (clause[i] ~ /^requires/) fault(at, label[key] " has a requires: " clause[i])
     if (clauses != 1 || clause[1] ~ /^requires/) {
         fault(at, label[key] " has not just one ensures")
         return
     }
-    if (later(key, "", "") ~ / .* /) fault(at, label[key] ": more than one parameter is lent to be changed:" later(key, "", ""))
-    args = arguments(key, "(now (", " .entry))")
-    cited = between(clause[1], "ensures { λ r. ⌜ r ≡ ", args " ⌝ }")
+    if (later(key, "") ~ / .* /) fault(at, label[key] ": more than one parameter is lent to be changed:" later(key, ""))
+    args = arguments(key, ".now", ".old")
+    said = clause[1]
+    sub(/^ensures [a-z][a-z0-9_]* /, "ensures ", said)
+    cited = between(said, "ensures { result ≡ ", args " }")
     equation[key] = cited != ""
-    if (cited == "") cited = between(clause[1], "ensures { λ r. ⌜ ", args " r" later(key, "(now (", " .exit))") " ⌝ }")
+    if (cited == "") cited = between(said, "ensures { ", args " result" later(key, ".new") " }")
     if (cited == "") fault(at, label[key] ": its ensures is not one name applied to" args ": " clause[1])
-    else if (equation[key] && changes(key)) fault(at, label[key] ": its ensures says nothing of what it leaves in" later(key, "", "") ": " clause[1])
+    else if (equation[key] && changes(key)) fault(at, label[key] ": its ensures says nothing of what it leaves in" later(key, "") ": " clause[1])
     else cites(key, cited)
+    words[key] = clause[1]
 }
 
 function cites(key, cited,    i) {
     for (i = 1; i <= count[key]; i++) if (parameter[key, i] == cited) fault(at, label[key] ": its ensures cites its parameter " cited)
-    if (equation[key]) holds_name(FILENAME, "mathlib.Core.Path", "_≡_")
+    if (equation[key]) holds_name(FILENAME, "Rattle.std.specs.Prelude", "◌≡◌")
     cited = meaning(FILENAME, cited)
-    if (cited ~ /^Rattle·[^ ]+\.specs\.[^ ]+$/) promise[key] = cited
+    if (cited ~ /^Rattle\.[^ .]+\.specs\.[^ ]+$/) promise[key] = cited
     else fault(at, label[key] ": its ensures cites " cited)
 }

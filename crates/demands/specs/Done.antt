@@ -3,7 +3,7 @@
 use Rattle.std.specs.Prelude.{ℕ, List, [], ◌∷◌, replicate}
 use Rattle.rules.specs.Stock.{added_to, drawn_from}
 use Rattle.rules.specs.Taking.{taken_of}
-use Rattle.station.specs.Steps.{fresh_of, add_of, draw_of, show_of, receive_of, message_for}
+use Rattle.station.specs.Steps.{fresh_of, add_of, draw_of, show_of, receive_of}
 use Rattle.record.specs.Dateless.{record_of}
 use Rattle.record.specs.Reading.{read_of}
 use Rattle.record.specs.Writing.{write_answer}

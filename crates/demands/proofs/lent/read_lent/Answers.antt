@@ -1,4 +1,3 @@
-use borrow.Author.Rules.{rules}
 use Rattle.record.proofs.WriteRead.{accepted_is_written}
 use Rattle.demands.proofs.lent.read_lent.Goals as goal
 
@@ -6,5 +5,5 @@ pub returns : goal.returns
 returns c =
     record {
       reads = c.read.ensures;
-      is_written = λ z. accepted_is_written c.args.bytes.now c.read.result c.shared_slice_known-1.given c.read.ensures z;
+      is_written = λ z. accepted_is_written c.args.bytes.now c.read.result c.type_inv.bytes c.read.ensures z;
     }
