@@ -22,7 +22,7 @@ fn link(folder: &Path, name: &str) {
     println!("cargo:rerun-if-changed={}", archive.display());
     if !archive.is_file() {
         eprintln!("there is no {}", archive.display());
-        eprintln!("run `rt staticlib {name}` in the repository's root, or set QUYNHABET_LIB");
+        eprintln!("run `bash tools/archive {name}` in the repository's root, or set QUYNHABET_LIB");
         std::process::exit(1);
     }
     println!("cargo:rustc-link-lib=static={name}");
