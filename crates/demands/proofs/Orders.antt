@@ -104,21 +104,21 @@ pub answers : Answers
 unfolding fresh_by add_by draw_by show_by receive_by read_by write_by
 answers =
     record {
-      add_step_lem = λ t k amount. by_step t (Add k amount);
-      draw_step_lem = λ t k amount. by_step t (Draw k amount);
-      send_step_lem = λ t from to. by_step t (Send from to);
-      deliver_step_lem = delivery_answers;
-      lose_step_lem = λ t p. by_step t (Lose p);
+      add_step = λ t k amount. by_step t (Add k amount);
+      draw_step = λ t k amount. by_step t (Draw k amount);
+      send_step = λ t from to. by_step t (Send from to);
+      deliver_step = delivery_answers;
+      lose_step = λ t p. by_step t (Lose p);
       run = λ t codes told r told' p. by_list (sum_refusals t) (ap (λ (r : Ran). r.answer) p.ran ∙ run_tells t codes told);
       fresh_table = λ count. by_list (fresh_table_refusals count) (fresh_table_tells count);
-      on_the_way_lem = λ t. by_list (sum_refusals t) refl;
-      at_stations_lem = λ t. by_list (sum_refusals t) refl;
+      on_the_way = λ t. by_list (sum_refusals t) refl;
+      at_stations = λ t. by_list (sum_refusals t) refl;
       send_in = λ pool. by_list (send_in_refusals pool) refl;
       lose_in = λ pool p. by_list (lose_in_refusals pool p) refl;
       fresh = λ number count. by_list (fresh_refusals number count) (fresh_tells number count);
       add = λ s amount. by_list (add_refusals s amount) (add_tells s amount);
       draw = λ s amount. by_list (draw_refusals s amount) (draw_tells s amount);
-      message_for_lem = λ s to. by_list (show_refusals s to) (show_tells s to);
+      message_for = λ s to. by_list (show_refusals s to) (show_tells s to);
       receive = λ s m. by_list (receive_refusals s m) (receive_tells s m);
       read = λ bytes. by_list (read_refusals bytes) (read_tells bytes);
       receive_bytes = λ s bytes. by_list (receive_bytes_refusals s bytes) (receive_bytes_tells s bytes);

@@ -27,7 +27,7 @@ module _ {P Q : Type 0} where
   stays_stored : (c c' : Channel P Q) (e : Event P) → Brings c c' e → (t : Held P) (l : Held Q) → OnTheWay c t → c'.slot ≡ some l → c'.token ≡ some t
   stays_stored c c' quiet b t l o p = (b.still t o).stored
   stays_stored c c' (departs u) b t l o p = absurd (b.none_before t o)
-  stays_stored c c' (arrives u) b t l o p = absurd (not_both b.slot_gone_lem p)
+  stays_stored c c' (arrives u) b t l o p = absurd (not_both b.slot_gone p)
 
 module _ {P Q : Type 0} {c c' : Channel P Q} {e : Event P} (z : Turn c c' e) where
   -- a slot that stands, with a destination clock that had passed before, stood before
@@ -63,7 +63,7 @@ module _ {P Q : Type 0} {c c' : Channel P Q} {e : Event P} (z : Turn c c' e) whe
 
       slot_below : {t : Held P} → Departs c c' t → t.destination < c'.destination
       slot_below d =
-          let o = d.on_the_way_lem in
+          let o = d.on_the_way in
           by_slot o.slot (λ q. omega (arith, h.slot_destination o.slot q, z.destination_rises, o.destination)) (λ q. omega (arith, q.advanced, o.destination)) (z.slot_from o.slot o.stands)
 
   pub giver_kept : {clock : ℕ} {token : Option (Held P)} → GiverShows c clock token → GiverShows c' clock token
@@ -105,12 +105,12 @@ module _ {P Q : Type 0} {c c' : Channel P Q} {e : Event P} (z : Turn c c' e) whe
   arrived_spent t h p =
       let a = arrived_by z.brings p in
       record {
-        passed = omega (arith, h.token_destination t a.on_the_way_lem.stored, z.destination_rises);
-        no_slot = λ l q _ _. not_both a.slot_gone_lem q;
+        passed = omega (arith, h.token_destination t a.on_the_way.stored, z.destination_rises);
+        no_slot = λ l q _ _. not_both a.slot_gone q;
       }
 
   pub spent_stays_out : (t : Held P) → Spent c t.source t.destination → e ≡ arrives t → ⊥
-  spent_stays_out t h p = let o = (arrived_by z.brings p).on_the_way_lem in h.no_slot o.slot o.stands (sym o.source) (sym o.destination)
+  spent_stays_out t h p = let o = (arrived_by z.brings p).on_the_way in h.no_slot o.slot o.stands (sym o.source) (sym o.destination)
 
 module _ {P Q : Type 0} {c : Channel P Q} (h : Standing c) where
   -- a message sent now

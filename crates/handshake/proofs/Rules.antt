@@ -37,9 +37,9 @@ module _ {P Q : Type 0} where
   }
 
   -- a slot that goes
-  slot_gone_lem : (c : Channel P Q) {e : Event P} (l : Held Q) → c.slot ≡ some l → l.source < c.source → Brings c (with_slot c c.destination none) e
+  slot_gone : (c : Channel P Q) {e : Event P} (l : Held Q) → c.slot ≡ some l → l.source < c.source → Brings c (with_slot c c.destination none) e
       → Turn c (with_slot c c.destination none) e
-  slot_gone_lem c l p h b = record {
+  slot_gone c l p h b = record {
     source_rises = omega arith;
     destination_rises = omega arith;
     token_from = λ t e. inl e;
@@ -53,10 +53,10 @@ module _ {P Q : Type 0} where
     pub fills : (t : Held P) (l : Held Q) → token ≡ some t → c.slot ≡ some l → t.source ≡ l.source → t.destination ≡ l.destination
         → Turn c (with_slot c c.destination none) (arrives t)
     fills t l p q s d =
-        slot_gone_lem c l q (omega (arith, m.shown_source t p, m.clock_reached))
+        slot_gone c l q (omega (arith, m.shown_source t p, m.clock_reached))
         (record {
-          on_the_way_lem = record { slot = l; stored = m.fits_only_if_stored t l p q s d; stands = q; source = s; destination = d };
-          slot_gone_lem = refl;
+          on_the_way = record { slot = l; stored = m.fits_only_if_stored t l p q s d; stands = q; source = s; destination = d };
+          slot_gone = refl;
         })
 
     -- 2. Drop slot, where the shown token does not fit it
@@ -64,7 +64,7 @@ module _ {P Q : Type 0} where
         → ((t : Held P) → token ≡ some t → t.source ≡ l.source → t.destination ≡ l.destination → ⊥)
         → Turn c (with_slot c c.destination none) quiet
     drops_slot l q h misfit =
-        slot_gone_lem c l q (omega (arith, m.clock_reached))
+        slot_gone c l q (omega (arith, m.clock_reached))
         (record { still = λ t o. absurd (none_on_way t o); nothing_new = λ t o. absurd (not_both refl o.stands) })
       where
         none_on_way : (t : Held P) → OnTheWay c t → ⊥
@@ -136,7 +136,7 @@ module _ {P Q : Type 0} where
           slot_goes = λ l e. inl e;
           brings = record {
             none_before = λ u o. omega (arith, h.token_source u o.stored, o.source, source_of stands o.stands);
-            on_the_way_lem = record { slot = k; stored = refl; stands = stands; source = ts; destination = td };
+            on_the_way = record { slot = k; stored = refl; stands = stands; source = ts; destination = td };
             own_clock = omega arith;
             advanced = omega arith;
           };

@@ -82,7 +82,7 @@ module _ {P Q : Type 0} {W W' : Web P Q} {g r : ℕ} {e : Event P} (z : Moves W 
     pairing_kept quiet p = rw append-nil h.pairing
     pairing_kept (departs t) p = pairing_departs h.pairing (transfer g r t) λ i y q b.
         omega (arith, (departed_by_lem z.here.brings p).own_clock, rw (b.maker, b.receiver) at (h.departures y.maker y.receiver y.token (i, q)), b.source)
-    pairing_kept (arrives t) p = pairing_arrives h.pairing (transfer g r t) (h.stored g r t (arrived_by z.here.brings p).on_the_way_lem.stored) λ i y q b.
+    pairing_kept (arrives t) p = pairing_arrives h.pairing (transfer g r t) (h.stored g r t (arrived_by z.here.brings p).on_the_way.stored) λ i y q b.
         moves_out t p (rw (b.maker, b.receiver, b.source, b.destination) at (h.arrivals y.maker y.receiver y.token (i, q)))
 
     pub moves_keep : Holds W' Waits (H ++ entries g r e)

@@ -53,8 +53,8 @@ module _ {P Q : Type 0} (w : P → ℕ) where
       → weight w c + departed w (entries g r e) ≡ weight w c' + arrived w (entries g r e)
   unfolding departed arrived
   turn_weighs c c' quiet g r z = omega (arith, weight_stays c c' z.brings)
-  turn_weighs c c' (departs t) g r z = omega (arith, weight_none z.brings.none_before, weight_on z.brings.on_the_way_lem)
-  turn_weighs c c' (arrives t) g r z = omega (arith, weight_on z.brings.on_the_way_lem, weight_none {c = c'} (λ u o. not_both z.brings.slot_gone_lem o.stands))
+  turn_weighs c c' (departs t) g r z = omega (arith, weight_none z.brings.none_before, weight_on z.brings.on_the_way)
+  turn_weighs c c' (arrives t) g r z = omega (arith, weight_on z.brings.on_the_way, weight_none {c = c'} (λ u o. not_both z.brings.slot_gone o.stands))
 
   pub moves_weigh : {W W' : Web P Q} {g r : ℕ} {e : Event P} (n : ℕ) → Moves W W' g r e → g < n → r < n
       → on_all_ways w W n + departed w (entries g r e) ≡ on_all_ways w W' n + arrived w (entries g r e)

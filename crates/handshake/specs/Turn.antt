@@ -15,14 +15,14 @@ pub record Opened {P Q : Type 0} (c c' : Channel P Q) (l : Held Q) : Type 0 wher
 -- advances
 pub record Departs {P Q : Type 0} (c c' : Channel P Q) (t : Held P) : Type 0 where
   pub none_before : (u : Held P) → OnTheWay c u → ⊥
-  pub on_the_way_lem : OnTheWay c' t
+  pub on_the_way : OnTheWay c' t
   pub own_clock : c.source ≤ t.source
   pub advanced : t.source < c'.source
 
 -- an arrival: the token was on the way, and its slot goes
 pub record Arrives {P Q : Type 0} (c c' : Channel P Q) (t : Held P) : Type 0 where
-  pub on_the_way_lem : OnTheWay c t
-  pub slot_gone_lem : c'.slot ≡ none
+  pub on_the_way : OnTheWay c t
+  pub slot_gone : c'.slot ≡ none
 
 -- neither: what is on the way afterwards is what was on the way before
 pub record Stays {P Q : Type 0} (c c' : Channel P Q) : Type 0 where

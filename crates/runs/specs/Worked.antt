@@ -17,7 +17,7 @@ worked =
 pub record Output : Type 0 where
   pub steps : List (List ℕ)
   pub stations : List (List ℕ)
-  pub on_the_way_lem : ℕ
+  pub on_the_way : ℕ
   pub total : ℕ
 
 -- each step prints its number from 1, its answer, its result
@@ -35,7 +35,7 @@ run_output t log =
     record {
       steps = step_rows 1 log;
       stations = station_row t 0 ∷ station_row t 1 ∷ [];
-      on_the_way_lem = on_the_way t;
+      on_the_way = on_the_way t;
       total = at_stations t + on_the_way t;
     }
 
@@ -63,7 +63,7 @@ worked_output =
           -- station 1 value 5 source 0 destination 1
           ∷ (1 ∷ 5 ∷ 0 ∷ 1 ∷ [])
           ∷ [];
-      on_the_way_lem = 0;
+      on_the_way = 0;
       total = 10;
     }
 
