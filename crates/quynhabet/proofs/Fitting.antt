@@ -1,10 +1,12 @@
 -- Four numbers that are a slot or a token. Assumes nothing.
-use Prim.Native.Nat.{ℕ, ◌<◌, ◌≤◌}
+use Prim.Native.Nat.{ℕ, suc, ◌+◌, ◌<◌, ◌≤◌}
 use mathlib.Core.Path.{◌≡◌}
 use mathlib.Core.Bool.{true, ◌||◌, and-false}
 use mathlib.Core.List.{List}
 use lib.Dec.{leb, eqb}
-use lib.ListN.{get_or}
+use native.Mathlib.Omega.{arith}
+use lib.ListN.{get_or, set}
+use lib.Seq.{sets}
 use borrow.Author.Tests.{leb-true}
 use Rattle.ground.specs.Below.{all_below}
 use Rattle.ground.specs.Limits.{last_clock, most_stations}
@@ -12,7 +14,7 @@ use Rattle.ground.specs.Clocks.{clock_sound}
 use Rattle.ground.proofs.Tests.{needed}
 use Rattle.ground.proofs.Below.{all_at}
 use Rattle.quynhabet.specs.declared.fours.Four.{Four}
-use Rattle.quynhabet.specs.Layout.{four_at, four_fits, is_nothing, slot_place, token_place, cells_fit, station_fits, message_fits}
+use Rattle.quynhabet.specs.Layout.{four_numbers, four_at, four_fits, is_nothing, slot_place, token_place, cells_fit, station_fits, message_fits}
 
 pub record FourFits (f : Four) : Type 0 where
   pub present : f.present ≤ 1
@@ -29,6 +31,15 @@ fitting f e =
       destination = leb-true _ _ (needed (clock_sound f.destination) (λ t. simp (t, and-false) at e));
       held = needed (eqb f.present 1 || is_nothing f) (λ t. simp (t, and-false) at e);
     }
+
+-- four stores one after the other
+pub four_stores : (l : List ℕ) (at : ℕ) (f : Four)
+    → set (set (set (set l at f.present) (at + 1) f.source) (at + 2) f.destination) (at + 3) f.quantity ≡ sets l at (four_numbers f)
+four_stores l at f =
+    let one : at + 1 ≡ suc at = omega arith in
+    let two : at + 2 ≡ suc (suc at) = omega arith in
+    let three : at + 3 ≡ suc (suc (suc at)) = omega arith in
+    rw (one, two, three)
 
 -- the parts of a station's numbers that fit, and of a message's
 pub record CellsFit (numbers : List ℕ) (k : ℕ) : Type 0 where

@@ -16,7 +16,8 @@ use Rattle.record.specs.Fields.{Body, body}
 use Rattle.record.specs.Walk.{going, stopped, step}
 use Rattle.record.specs.Dateless.{from_field, to_field, value_field, clocks_field}
 use Rattle.record.specs.Reading.{stood, line_for, next_of, ends_walk, ends_bodies, front_walk}
-use Rattle.record.proofs.Cursors.{stood_stops, faulted, took, refused}
+use Rattle.record.proofs.Looks.{Here}
+use Rattle.record.proofs.Cursors.{stood_stops, faulted, stands, took, refused}
 
 -- the code's test of to, and the definition's
 to_refused : (from to : ℕ) → (ltb 15 to || eqb from to) ≡ true → (leb to 15 && not (eqb from to)) ≡ false
@@ -34,6 +35,9 @@ module _ (bytes : List ℕ) (first : Cursor) (first_is : first ≡ next_of bytes
   first_fault bodies n = rw (faulted bytes from_field false 0 first first_is [] n, stood_stops first.answer first.at bodies n)
 
   module _ (none : first.answer ≡ 0) where
+    pub first_here : Here bytes 0 1 1
+    first_here = stands bytes from_field false 0 first first_is none (inl refl)
+
     module _ (from : ℕ) (from_is : from ≡ number_at bytes 3 1) where
       pub from_fault : 15 < from → ends_walk bytes ≡ stopped unsound_number 0
       unfolding ends_walk step
@@ -50,6 +54,9 @@ module _ (bytes : List ℕ) (first : Cursor) (first_is : first ≡ next_of bytes
             rw (first_taken, faulted bytes to_field false first.at second second_is (body (from ∷ []) ∷ []) n, stood_stops second.answer second.at bodies n)
 
         module _ (none₂ : second.answer ≡ 0) where
+          pub second_here : Here bytes first.at 2 1
+          second_here = stands bytes to_field false first.at second second_is none₂ (inl refl)
+
           module _ (to : ℕ) (to_is : to ≡ number_at bytes (first.at + 3) 1) where
             pub to_fault : (ltb 15 to || eqb from to) ≡ true → ends_walk bytes ≡ stopped unsound_number first.at
             unfolding ends_walk
@@ -72,6 +79,9 @@ module _ (bytes : List ℕ) (at from to : ℕ) (before : ends_walk bytes ≡ goi
     third_fault bodies n = rw (before, faulted bytes value_field false at third third_is (ends_bodies from to) n, stood_stops third.answer third.at bodies n)
 
     module _ (none : third.answer ≡ 0) where
+      pub third_here : Here bytes at 3 8
+      third_here = stands bytes value_field false at third third_is none (inl refl)
+
       module _ (value : ℕ) (value_is : value ≡ number_at bytes (at + 3) 8) where
         pub value_fault : most_value < value → front_walk bytes ≡ stopped unsound_number at
         unfolding front_walk step
@@ -94,6 +104,9 @@ module _ (bytes : List ℕ) (at from to : ℕ) (before : ends_walk bytes ≡ goi
           fourth_fault bodies n = rw (third_taken, faulted bytes clocks_field false third.at fourth fourth_is bodies₃ n, stood_stops fourth.answer fourth.at bodies n)
 
           module _ (none₂ : fourth.answer ≡ 0) where
+            pub fourth_here : Here bytes third.at 4 8
+            fourth_here = stands bytes clocks_field false third.at fourth fourth_is none₂ (inl refl)
+
             pub front_taken : (s d : ℕ) → (s ≡ number_at bytes (third.at + 3) 4) × (s ≤ last_clock) → (d ≡ number_at bytes (third.at + 7) 4) × (d ≤ last_clock)
                 → front_walk bytes ≡ going fourth.at (body (from ∷ []) ∷ body (to ∷ []) ∷ body (value ∷ []) ∷ body (s ∷ d ∷ []) ∷ [])
             unfolding front_walk

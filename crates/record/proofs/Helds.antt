@@ -23,7 +23,8 @@ use Rattle.record.specs.Fields.{Body, missing, Field, number_of, total}
 use Rattle.record.specs.Walk.{going, stopped, numbers_at, step}
 use Rattle.record.specs.Dateless.{slot_field, token_field, slot_body, token_body}
 use Rattle.record.specs.Reading.{stood, line_for, next_of}
-use Rattle.record.proofs.Cursors.{stood_stops, stood_goes, faulted, missed, field_room, took, refused}
+use Rattle.record.proofs.Looks.{Here}
+use Rattle.record.proofs.Cursors.{stood_stops, stood_goes, faulted, missed, field_room, stands, took, refused}
 
 -- the numbers of a slot's or a token's field, as the code reads them
 abbrev pub Three : List ℕ → ℕ → ℕ → ℕ → ℕ → Type 0
@@ -62,6 +63,9 @@ module _ (bytes : List ℕ) (f : Field) (last : Bool) (at : ℕ) (c : Cursor) (i
     by (suc n) z = faulted bytes f last at c is before (λ w. omega arith) ∙ sym (stood_stops c.answer c.at _ (λ w. omega arith))
 
 module _ (bytes : List ℕ) (at : ℕ) (c : Cursor) (is : c ≡ next_of bytes at (line_for slot_field false)) (none : c.answer ≡ 0) (on : c.at ≡ at → ⊥) where
+  pub slot_here : Here bytes at 5 16
+  slot_here = stands bytes slot_field false at c is none (inr on)
+
   module _ (s d q : ℕ) (t : Three bytes at s d q) (clock : DestinationClock) (before : List Body) (shown : number_of before 3 1 ≡ clock.0) where
     abbrev slot : HeldSlot
     slot = OneSlot (record { source = record { 0 = s }; destination = record { 0 = d }; quantity = q })
@@ -73,6 +77,9 @@ module _ (bytes : List ℕ) (at : ℕ) (c : Cursor) (is : c ≡ next_of bytes at
     slot_taken e = took bytes slot_field false at c is none (inr on) before (s ∷ d ∷ q ∷ []) (three bytes at s d q t) (rw shown e)
 
 module _ (bytes : List ℕ) (at : ℕ) (c : Cursor) (is : c ≡ next_of bytes at (line_for token_field true)) (none : c.answer ≡ 0) (on : c.at ≡ at → ⊥) where
+  pub token_here : Here bytes at 6 16
+  token_here = stands bytes token_field true at c is none (inr on)
+
   module _ (s d q : ℕ) (t : Three bytes at s d q) (clock : SourceClock) (before : List Body) (shown : number_of before 3 0 ≡ clock.0) where
     abbrev token : HeldToken
     token = OneToken (record { source = record { 0 = s }; destination = record { 0 = d }; quantity = q })
