@@ -2,7 +2,8 @@
 """Brings the repository's own names to one spelling: snake case, with a dash between the names of a
 crate, a type and a function where a row of a list is named after them.
 
-usage: python3 tools/respell.py     at the top, once, right after the kit's port.py
+usage: python3 tools/respell.py [FILE]     at the top, once, right after the kit's port.py, which
+says in FILE what it renamed by itself (where none is named, the one that it leaves)
 
 It renames the definitions, lemmas and fields of specs/ and proofs/ wherever they are cited: there,
 in the clauses of src/, in what the edits of must-fail/ say of themselves, and in README and docs/.
@@ -15,6 +16,8 @@ import glob
 import os
 import re
 import subprocess
+import sys
+import tempfile
 
 TOKEN = r"[^\s(){}\[\],;.:λ\"`|@]+"
 DECLARES = re.compile(r"^\s*(?:(?:abbrev|unfoldable|pub|pattern|data|record)\s+)*(" + TOKEN + r")\s*:(?:\s|$)")
@@ -23,7 +26,7 @@ OWN = re.compile(r"^Rattle\.(" + "|".join(sorted(os.listdir("crates"))) + r")\."
 CAMEL = re.compile("[a-z0-9][A-Z]")
 # bound in a proof, by no signature
 LOCAL = "kindIn restsAt placeAt ends-here f-is first-is fourth-is holds-value in-range is-both is-g line-laws s-is t-is third-is value-is both-def both-thm test-def test-thm"
-SAID_BY_PORT = "/tmp/port-said/upgrade.txt"
+SAID_BY_PORT = os.path.join(tempfile.gettempdir(), "port-said", "upgrade.txt")
 
 
 def files(*endings):
@@ -119,7 +122,7 @@ def turn(path, new):
 def said_by_port(new):
     """What port.py renamed, old to new."""
     out = {}
-    for line in read(SAID_BY_PORT).split("\n"):
+    for line in read(sys.argv[1] if len(sys.argv) > 1 else SAID_BY_PORT).split("\n"):
         if "snake case now: " in line:
             listed = line.split("snake case now: ")[1].split(". Your other")[0]
             for old in listed.split(", "):

@@ -1,5 +1,5 @@
-// What the stations of a table hold for each other, in one row of cells that a step can be shown
-// one of: of a station in an array no single cell can be read.
+// What the stations of a table hold for each other, in one row of cells, of which a step is shown
+// one.
 ghost use Rattle.std.specs.Prelude.{◌≡◌, ◌<◌};
 ghost use Rattle.ground.specs.Limits.{most_stations};
 ghost use Rattle.steps.specs.Cells.{cells_for, cells_of, side_by};
