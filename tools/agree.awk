@@ -199,12 +199,34 @@ function width(text,    n, i, part, sum) {
 
 # ---- the Rattle code
 
-FILENAME ~ /ground\/src\/(answers|limits)\.rt$/ {
-    if (/^pub const [A-Z_]+: (u8|u32|u64|usize) = [0-9_]+;$/) {
+FILENAME ~ /ground\/src\/(answers|limits|refusal)\.rt$/ {
+    if (into == "refusals") reads_refusal()
+    else if (into == "told") reads_told()
+    else if (/^pub enum Refusal \{$/) into = "refusals"
+    else if (/^impl Refusal \{$/) into = "told"
+    else if (/^pub const [A-Z_]+: (u8|u32|u64|usize) = [0-9_]+;$/) {
         rest = $3
         sub(/:/, "", rest)
         has("code", rest, word(6))
-    } else if (!/^(\/\/.*)?$/) unread()
+    } else if (!/^(\/\/.*|ghost use .*;|use crate::answers;|#\[derive\(.*\)\])?$/) unread()
+}
+
+# each refusal is told as the number of its name
+function reads_refusal() {
+    if (/^\}$/) into = ""
+    else if (/^    [A-Z][A-Za-z]+,$/) refusal[upper(word(1))] = here()
+    else unread()
+}
+
+function reads_told(    name, number) {
+    if (/^\}$/) into = ""
+    else if (/^            Refusal::[A-Z][A-Za-z]+ => answers::[A-Z_]+,$/) {
+        name = upper(substr(word(1), length("Refusal") + 1))
+        number = substr($3, length("answers::") + 1)
+        sub(/,$/, "", number)
+        if (name != number) fault(here(), name " is told as " number)
+        told[name] = 1
+    } else if (!/^ +(\/\/.*|pub fn number\(self\) -> u8|ensures \{ result ≡ number_of self \}|match self \{|\{|\})$/) unread()
 }
 
 # ---- the header
@@ -311,6 +333,7 @@ END {
     sizes()
     for (i = 1; i <= kinds; i++) if (!counted[kind[i]]) fault("the definitions", "no " kind[i])
     for (i = 1; i <= sides; i++) compare(side[i])
+    refusals()
     if (faults) exit 1
     for (i = 1; i <= kinds; i++) printf "%s%s", i == 1 ? "" : ", ", many(kind[i])
     print ": the same in definitions, code, header, Rust package and second program"
@@ -330,6 +353,17 @@ function sizes(    file, most, end) {
     }
     defines("size", "STATION_NUMBERS", end + four * most, file)
     defines("size", "MESSAGE_NUMBERS", defined["MESSAGE_TOKEN"] + four, file)
+}
+
+# every answer but 0 is a refusal of the code, and is told
+function refusals(    file, name) {
+    file = "crates/ground/src/refusal.rt"
+    for (name in defined) {
+        if (kind_of[name] != "answer" || name == "DONE") continue
+        if (!(name in refusal)) fault(file, name " is no refusal")
+        else if (!(name in told)) fault(refusal[name], name " is not told")
+    }
+    for (name in refusal) if (!(name in defined)) fault(refusal[name], name " is a refusal, and in no definition")
 }
 
 function compare(who,    n, i, name, list, file) {

@@ -151,7 +151,7 @@ function knows_code(at, text,    name) {
     if (text ~ /^(impl|\})/) type[at] = ""
     sub(/^impl<[^>]*>/, "impl", text)
     sub(/^ *(pub(\(crate\))? )?(extern "C" )?/, "", text)
-    if (text !~ /^(impl|fn|struct|enum|const) [A-Za-z0-9_]+/) return
+    if (text !~ /^(impl|fn|struct|enum|trait|const) [A-Za-z0-9_]+/) return
     name = part_of(text)
     if (text ~ /^impl/) type[at] = name
     else defined[at, name] = 1

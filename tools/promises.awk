@@ -19,9 +19,23 @@
 # for functions.
 # `pub(crate) fn` is not public.
 #
+# A function of a public trait has no requires either, and one ensures, `result ≡ g a b`, where `g`
+# is a ghost item of the trait. It has no body there. Each implementation of the trait is for one
+# plain type, and says what its ghost items are; its functions have no clauses of their own, and are
+# public functions: tools/listed.awk holds their rows against them.
+#
 # A public function of a static library (`NAME staticlib:` in crates.txt) is an export. Its body is
 # one line, the call of a function of its name by the path crate::module::name, with its parameters
 # in their order; tools/listed.awk holds it against that function.
+
+# the public traits, before any file is read
+BEGIN {
+    for (i = 1; i < ARGC; i++) {
+        if (ARGV[i] !~ /\.rt$/) continue
+        while ((getline text < ARGV[i]) > 0) if (text ~ /^pub trait /) is_trait[named(text, "pub trait ")] = 1
+        close(ARGV[i])
+    }
+}
 
 function fault(where, what) {
     print where ": " what
@@ -94,7 +108,7 @@ FNR == 1 && FILENAME ~ /\.rt$/ {
     sub(/\.rt$/, "", module)
     gsub(/\//, ".", module)
     sub(/(^|\.)(lib|main|mod)$/, "", module)
-    type = struct = head = exported = ""
+    type = struct = trait = of = head = exported = ""
 }
 
 FILENAME ~ /\.rt$/ {
@@ -120,11 +134,14 @@ function has(line, word) {
 function reads_line(line,    why) {
     why = unread(line)
     if (why != "") fault(here(), why " not read: " line)
+    else if (trait != "") reads_trait(line)
+    else if (of != "" && line ~ /^ *fn /) begins_head(line)
     else if (line ~ /^ghost use /) imports(ghostless(line))
     else if (line ~ /^use [a-z0-9_:]+;$/) brings(line)
-    else if (line ~ /^impl/) type = named(line, "impl(<[^>]*>)? ")
+    else if (line ~ /^pub trait /) begins_trait(line)
+    else if (line ~ /^impl/) begins_impl(line)
     else if (line ~ /^(pub(\(crate\))? )?struct /) struct = named(line, "(pub(\\(crate\\))? )?struct ")
-    else if (line ~ /^}/) type = struct = ""
+    else if (line ~ /^}/) type = struct = of = ""
     else if (line ~ /^ *pub (extern "C" )?fn /) begins_head(line)
     else if (struct != "") reads_field(line)
 }
@@ -136,7 +153,7 @@ function unread(line) {
     if (has(line, "macro_rules") || line ~ /^[A-Za-z0-9_:]+! *[({[]/) return "a macro is"
     if (has(line, "fn") && line !~ /^ *(pub |pub\(crate\) )?(extern "C" )?fn [A-Za-z0-9_]+(<[^()]*>)?\(/) return "the head of a function is"
     if (has(line, "fn") && has(substr(line, index(line, "fn ") + 3), "fn")) return "two functions on a line are"
-    if (has(line, "pub") && line !~ /^ *pub(\(crate\))? ((extern "C" )?fn|struct|enum|const|type|mod|use|[a-z][a-z0-9_]*:) /) return "what is public here is"
+    if (has(line, "pub") && line !~ /^ *pub(\(crate\))? ((extern "C" )?fn|struct|enum|trait|const|type|mod|use|[a-z][a-z0-9_]*:) /) return "what is public here is"
     return ""
 }
 
@@ -165,6 +182,44 @@ function named(line, before) {
     return line
 }
 
+# ---- public traits, and what implements them
+
+function begins_trait(line) {
+    trait = named(line, "pub trait ")
+    if (line !~ /^pub trait [A-Za-z0-9_]+(: [A-Za-z0-9_]+( \+ [A-Za-z0-9_]+)*)? \{$/) fault(here(), "a public trait is not read: " line)
+}
+
+function reads_trait(line) {
+    if (line ~ /^}/) trait = ""
+    else if (line ~ /^    ghost [a-z][a-z0-9_]*: \{ .* \};$/) ghost[trait, named(line, "    ghost ")] = 1
+    else if (line ~ /^    fn [A-Za-z0-9_]+\(/) begins_head(line)
+    else if (line !~ /^(    ghost use .*;| *)$/) fault(here(), "in a public trait this is not read: " line)
+}
+
+# an implementation of a public trait is known by its type and the trait, as its contracts are
+function begins_impl(line,    i, name, part) {
+    type = named(line, "impl(<[^>]*>)? ")
+    for (name in is_trait) if (line ~ ("[ :]" name "(<.*)? for ")) of = name
+    if (of == "") return
+    split(line, part, " ")
+    type = part[4] of
+    if (line !~ ("^impl " of " for [A-Za-z0-9_]+ \\{$")) fault(here(), "an implementation of a public trait is not read: " line)
+}
+
+# a function of the trait itself has no row: its promise is its ghost item, which is another's in
+# each implementation
+function ends_method(    key, said, cited) {
+    key = crate "-" trait "." name
+    label[key] = crate "::" trait "::" name
+    reads_parameters(key)
+    said = clause[1]
+    sub(/^ensures [a-z][a-z0-9_]* /, "ensures ", said)
+    cited = clauses == 1 ? between(said, "ensures { result ≡ ", arguments(key, ".now", ".old") " };") : ""
+    if (changes(key)) fault(at, label[key] ": a parameter of a trait's function is lent to be changed:" later(key, ""))
+    else if (!((trait, cited) in ghost)) fault(at, label[key] ": its ensures is not one ghost item of its trait applied to" arguments(key, ".now", ".old"))
+    head = ""
+}
+
 # ---- structs: which of them hold an answer
 
 function reads_field(line,    half) {
@@ -187,17 +242,17 @@ function answers(struct, depth,    n, i, field, half) {
 function begins_head(line) {
     at = here()
     margin = line
-    sub(/pub .*/, "", margin)
-    sub(/^ *pub (extern "C" )?fn /, "", line)
+    sub(/(pub|fn) .*/, "", margin)
+    sub(/^ *(pub (extern "C" )?)?fn /, "", line)
     name = named(line, "")
-    if ((margin != "") != (type != "")) fault(at, name " stands neither in a file nor in an impl")
+    if ((margin != "") != (type trait != "")) fault(at, name " stands neither in a file nor in an impl")
     head = ""
     signed = clauses = 0
     reads_signature(line)
 }
 
 function reads_head(line) {
-    if (line == margin "{") ends_head()
+    if (line == margin "{" && trait == "") ends_head()
     else if (has(line, "fn")) stops_head("its opening brace is missing where it is expected")
     else if (signed) reads_clause(line)
     else reads_signature(line)
@@ -211,12 +266,17 @@ function reads_signature(line) {
     signed = 1
     sub(/ $/, "", head)
     if (head !~ /^[^()]*\([^()]*\)( -> [^(){}]+)?( \{\}?)?$/ || has(head, "(requires|ensures)")) stops_head("its head is not read: " head)
+    else if (trait != "" && head ~ /[{;]/) stops_head("a function of a public trait has a body, or no ensures: " head)
     else if (sub(/ \{\}?$/, "", head)) ends_head()
 }
 
 function reads_clause(line) {
     sub(/^ +/, "", line)
     if (line ~ /^(requires|ensures)\*?( [a-z][a-z0-9_]*)? \{.*\}$/) clause[++clauses] = line
+    else if (trait != "" && line ~ /^(requires|ensures)\*?( [a-z][a-z0-9_]*)? \{.*\};$/) {
+        clause[++clauses] = line
+        ends_method()
+    }
     else stops_head("a line of its head is not read: " line)
 }
 
@@ -243,7 +303,8 @@ function ends_head(    key, member) {
     result[key] = named(head, ".*\\)( -> )?\\[?")
     signature[key] = one_line(head)
     reads_parameters(key)
-    reads_promise(key)
+    if (of == "") reads_promise(key)
+    else implements(key)
     head = ""
     if (crate in static) begins_body(key)
 }
@@ -344,6 +405,14 @@ function reads_promise(key,    i, args, said, cited) {
     else if (equation[key] && changes(key)) fault(at, label[key] ": its ensures says nothing of what it leaves in" later(key, "") ": " clause[1])
     else cites(key, cited)
     words[key] = clause[1]
+}
+
+# what it promises is its trait's ghost item, as the implementation gives it
+function implements(key) {
+    if (clauses) fault(at, label[key] " has clauses of its own, in the implementation of " of ": " clause[1])
+    if (crate in static) fault(at, label[key] " implements " of " in a static library")
+    promise[key] = of
+    equation[key] = implemented[key] = 1
 }
 
 function cites(key, cited,    i) {

@@ -1,5 +1,6 @@
 -- Demand 1 holds: every refusal has result 0, an empty report, and leaves what was lent. Assumes
 -- nothing.
+use Rattle.std.proofs.Common.{Option, Some, None, Result, Ok, Err}
 use Prim.Native.Nat.{ℕ, zero, suc}
 use mathlib.Core.Path.{◌≡◌, refl, sym}
 use mathlib.Core.Bool.{Bool, true, false, cond}
@@ -26,7 +27,8 @@ use Rattle.rules.specs.Message.{no_message}
 use Rattle.station.specs.Steps.{fresh_answer, add_answer, draw_answer, show_answer, receive_answer, message_for, fresh_of, add_of, draw_of, show_of, receive_of}
 use Rattle.record.specs.declared.reading.Reading.{Reading}
 use Rattle.ground.specs.declared.told.Told.{Told}
-use Rattle.record.specs.Reading.{walked, no_reading, read_of}
+use Rattle.record.specs.declared.faults.Fault.{Fault}
+use Rattle.record.specs.Reading.{walked, reading_of, read_of}
 use Rattle.record.specs.Dateless.{record_of}
 use Rattle.record.specs.Writing.{Writes, write_answer}
 use Rattle.record.specs.AtStation.{write_for_answer, receive_bytes_of}
@@ -37,8 +39,6 @@ use Rattle.steps.specs.declared.running.Ran.{Ran}
 use Rattle.steps.specs.declared.asked.Step.{Step}
 use Rattle.steps.specs.declared.asked.Step.TheVariants.{Add, Draw, Send, Deliver, Lose}
 use Rattle.pool.specs.declared.places.Place.{Place}
-use Rattle.pool.specs.declared.places.Waiting.{Waiting}
-use Rattle.pool.specs.declared.places.Waiting.TheVariants.{Empty, One}
 use Rattle.table.specs.declared.stepped.Stepped.{Stepped}
 use Rattle.table.specs.declared.table.Table.{Table}
 use Rattle.table.specs.Sound.{table_sound}
@@ -70,9 +70,9 @@ no_message_lem : (n : ℕ) (m : Message) → n ≢ done → if_done n m no_messa
 no_message_lem n m f = sym (when_refused n m no_message f)
 
 -- a record
-no_record_lem : (n : ℕ) (got : Reading) → got.answer ≡ done → let r = if_done n got no_reading in Refused r.answer r.result no_message r.message
-no_record_lem zero got e f = absurd (f e)
-no_record_lem (suc n) got e f = (refl, refl)
+no_record_lem : (w : Result (Message × ℕ) Fault) → let r = reading_of w in Refused r.answer r.result no_message r.message
+no_record_lem (Ok read) f = absurd (f refl)
+no_record_lem (Err e) f = (refl, refl)
 
 writes : (answer : ℕ) (bytes before : List ℕ) (r : Told) (after : List ℕ) → Writes answer bytes before r after → Refused r.answer r.result before after
 writes zero bytes before r after w f = absurd (f (rw w.told))
@@ -110,9 +110,9 @@ at_table : (n : ℕ) (t : Table) (d : Stepped) → d.answer ≡ done → Refused
 at_table zero t d e f = absurd (f e)
 at_table (suc n) t d e f = (refl, refl, refl)
 
-delivers : (t : Table) (w : Waiting) → (deliver_step t w).answer ≡ done
-delivers t Empty = refl
-delivers t (One m) = refl
+delivers : (t : Table) (w : Option Message) → (deliver_step t w).answer ≡ done
+delivers t None = refl
+delivers t (Some m) = refl
 
 does : (t : Table) (step : Step) → (step_done t step).answer ≡ done
 does t (Add k amount) = refl
@@ -157,7 +157,7 @@ demand1 =
       station-draw = λ s amount. at_station_lem (draw_answer s amount) s _ refl;
       station-message_for = λ s to. no_message_lem (show_answer s to) (message_for s to);
       station-receive = λ s m. at_station_lem (receive_answer s m) s _ refl;
-      record-read = λ bytes. no_record_lem (walked bytes).answer _ refl;
+      record-read = λ bytes. no_record_lem (walked bytes);
       record-write = λ m buffer. writes _ _ buffer;
       record-write_message = λ s to buffer. writes _ _ buffer;
       record-receive_bytes = λ s bytes. at_station_lem (receive_answer s (read_of bytes).message) s _ refl;
@@ -183,7 +183,7 @@ demand1 =
           let s = station_of station in
           gives_refused _ station
           (on_numbers (station_fits station) s (receive_bytes_of s bytes) station (at_station_lem (receive_answer s (read_of bytes).message) s _ refl));
-      quynhabet-qb_record_read = λ bytes message. gives_refused _ message (from_bytes (read_of bytes) message (no_record_lem (walked bytes).answer _ refl));
+      quynhabet-qb_record_read = λ bytes message. gives_refused _ message (from_bytes (read_of bytes) message (no_record_lem (walked bytes)));
       quynhabet-qb_record_write =
           λ message out.
           let m = message_of message in

@@ -9,3 +9,4 @@ pub mod AllOrNone
 pub mod WorkedScript
 pub mod Done
 pub mod Orders
+pub mod Numbered

@@ -1,5 +1,6 @@
 -- The lists of refusals have the printed orders, whatever they are asked of; and each answer is 0
 -- or a number of its list. Assumes nothing.
+use Rattle.std.proofs.Common.{Some}
 use Prim.Native.Nat.{ℕ, ◌<◌}
 use mathlib.Core.Path.{◌≡◌, refl, ap, sym, ◌∙◌}
 use mathlib.Core.Bool.{Bool, true, false, cond, not}
@@ -29,7 +30,6 @@ use Rattle.quynhabet.specs.Exports.{Given, Gives, refused_by, check_refusals, ch
 use Rattle.quynhabet.specs.Layout.{station_of, station_fits, message_of, message_fits}
 use Rattle.pool.specs.declared.places.Place.{Place}
 use Rattle.steps.specs.declared.running.Ran.{Ran}
-use Rattle.pool.specs.declared.places.Waiting.TheVariants.{One}
 use Rattle.steps.specs.declared.asked.Step.{Step}
 use Rattle.steps.specs.declared.asked.Step.TheVariants.{Add, Draw, Send, Deliver, Lose}
 use Rattle.table.specs.declared.stepped.Stepped.{Stepped}
@@ -78,7 +78,7 @@ pub delivery_answers : (t : Table) (p : ℕ) → OneOf (step_of t (Deliver p)).a
 delivery_answers t p = by_step t (Deliver p)
 
 -- so no station of a sound table answers 9, 2 or 11 to a message that waits for it
-pub waiting_answers : (t : Table) → table_sound t ≡ true → length t.stations ≡ most_stations → (p : ℕ) (m : Message) → p < most_places → waiting_at t p ≡ One m
+pub waiting_answers : (t : Table) → table_sound t ≡ true → length t.stations ≡ most_stations → (p : ℕ) (m : Message) → p < most_places → waiting_at t p ≡ Some m
     → OneOf (receive_of (station_at t m.to) m).answer (1 ∷ 7 ∷ 8 ∷ 10 ∷ [])
 waiting_answers t sound full p m h e = rw (sym (deliver_same t sound full p m h e).answer) (delivery_answers t p)
 

@@ -59,6 +59,7 @@ put_lines_settled script run out x y p q =
 pub settled : Settled
 settled =
     record {
+      ground-Refusal-number = λ self. given refl;
       ground-SourceClock-in_range = λ self. given refl;
       ground-SourceClock-is_above = λ self other. given refl;
       ground-SourceClock-equals = λ self other. given refl;
@@ -77,6 +78,10 @@ settled =
       rules-no_message = given refl;
       rules-no_report = given refl;
       rules-rules_of = λ report. given refl;
+      rules-SlotHeld-terms = λ self. given refl;
+      rules-SlotHeld-on = λ terms. given refl;
+      rules-TokenHeld-terms = λ self. given refl;
+      rules-TokenHeld-on = λ terms. given refl;
       station-fresh = λ number count. given refl;
       station-add = λ s amount. given refl;
       station-draw = λ s amount. given refl;

@@ -1,6 +1,7 @@
 -- Bytes, stations and tables share their definitions: receiving a message's record is a delivery of
 -- it, and the record that a station writes is the writing of the message that a send places.
 -- Assumes nothing.
+use Rattle.std.proofs.Common.{Some}
 use Prim.Native.Nat.{ℕ, ◌<◌}
 use mathlib.Core.Path.{◌≡◌, ap}
 use mathlib.Core.Bool.{true}
@@ -13,7 +14,6 @@ use Rattle.station.specs.Steps.{show_answer, message_for, receive_of}
 use Rattle.record.specs.Dateless.{record_of}
 use Rattle.record.specs.AtStation.{receive_bytes_of}
 use Rattle.record.proofs.Messages.{read_back}
-use Rattle.pool.specs.declared.places.Waiting.TheVariants.{One}
 use Rattle.steps.specs.declared.asked.Step.TheVariants.{Send, Deliver}
 use Rattle.table.specs.declared.table.Table.{Table}
 use Rattle.pool.specs.Pool.{most_places, lowest_empty}
@@ -28,7 +28,7 @@ unfolding receive_bytes_of
 record_received s m e = rw (read_back m e)
 
 -- the record of the message that waits at a place, received by the station that it is for
-pub record_delivered : (t : Table) → table_sound t ≡ true → length t.stations ≡ most_stations → (p : ℕ) (m : Message) → p < most_places → waiting_at t p ≡ One m
+pub record_delivered : (t : Table) → table_sound t ≡ true → length t.stations ≡ most_stations → (p : ℕ) (m : Message) → p < most_places → waiting_at t p ≡ Some m
     → SameAt t m.to (receive_bytes_of (station_at t m.to) (record_of m)) (step_of t (Deliver p))
 record_delivered t sound full p m h e =
     let place = rw e at ((table_parts t sound).places p h) in
@@ -36,7 +36,7 @@ record_delivered t sound full p m h e =
 
 -- what a station writes for another, and what its send places
 pub record_sent : (t : Table) (from to : ℕ) → table_sound t ≡ true → length t.pool ≡ most_places → from < t.count → show_answer (station_at t from) to ≡ 0
-    → lowest_empty t.pool < most_places → (m : Message) → waiting_at (step_of t (Send from to)).table (lowest_empty t.pool) ≡ One m
+    → lowest_empty t.pool < most_places → (m : Message) → waiting_at (step_of t (Send from to)).table (lowest_empty t.pool) ≡ Some m
     → record_of (message_for (station_at t from) to) ≡ record_of m
 record_sent t from to sound full h a free m e =
     let w = (send_same t from to sound full h a free).waiting in

@@ -1,8 +1,6 @@
 -- The cases at the edges that are to be proved, each as what the entry points' definitions give and
 -- what they have to give.
-use Rattle.std.specs.Prelude.{ℕ, List, [], ◌∷◌, ◌++◌}
-use Rattle.rules.specs.declared.held.HeldSlot.TheVariants.{NoSlot}
-use Rattle.rules.specs.declared.held.HeldToken.TheVariants.{NoToken}
+use Rattle.std.specs.Prelude.{ℕ, List, [], ◌∷◌, ◌++◌, None}
 use Rattle.station.specs.declared.station.Station.{Station}
 use Rattle.rules.specs.declared.message.Message.{Message}
 use Rattle.station.specs.declared.outcome.Outcome.{Outcome}
@@ -27,7 +25,7 @@ add_near_limit amount = let r = add_of (put_stock (blank 1 2) 0 999999999) amoun
 
 -- station 0 with value 10 and fresh clocks, to station 1
 abbrev pub printed : List ℕ
-printed = record_of (from0 10 0 0 NoSlot NoToken)
+printed = record_of (from0 10 0 0 None None)
 
 abbrev read_numbers : List ℕ → List ℕ
 read_numbers bytes = let r = read_of bytes in r.answer ∷ r.result ∷ []
@@ -36,43 +34,43 @@ abbrev pub cases : List Case
 cases =
     -- values 10 and 0, rule 3 at the poorer: slot of 5
     record {
-      gives = outcome_numbers (once (station1 0 0 0 NoSlot NoToken) (from0 10 0 0 NoSlot NoToken));
+      gives = outcome_numbers (once (station1 0 0 0 None None) (from0 10 0 0 None None));
       wanted = (0 ∷ 0 ∷ []) ∷ (3 ∷ []) ∷ (5 ∷ 0 ∷ []) ∷ (0 ∷ 0 ∷ 1 ∷ []) ∷ (0 ∷ 0 ∷ 5 ∷ []) ∷ [] ∷ [];
     }
     -- values 1 and 0: no slot
     ∷ record {
-      gives = outcome_numbers (once (station1 0 0 0 NoSlot NoToken) (from0 1 0 0 NoSlot NoToken));
+      gives = outcome_numbers (once (station1 0 0 0 None None) (from0 1 0 0 None None));
       wanted = (0 ∷ 0 ∷ []) ∷ [] ∷ (0 ∷ 0 ∷ []) ∷ (0 ∷ 0 ∷ 0 ∷ []) ∷ [] ∷ [] ∷ [];
     }
     -- values 3 and 5, the message shows 3: no slot
     ∷ record {
-      gives = outcome_numbers (once (station1 5 0 0 NoSlot NoToken) (from0 3 0 0 NoSlot NoToken));
+      gives = outcome_numbers (once (station1 5 0 0 None None) (from0 3 0 0 None None));
       wanted = (0 ∷ 0 ∷ []) ∷ [] ∷ (0 ∷ 0 ∷ []) ∷ (5 ∷ 0 ∷ 0 ∷ []) ∷ [] ∷ [] ∷ [];
     }
     -- slot of 5, the maker holds 5: token 5, value 0
     ∷ record {
-      gives = outcome_numbers (once (station1 5 0 0 NoSlot NoToken) (from0 0 0 1 (slot 0 0 5) NoToken));
+      gives = outcome_numbers (once (station1 5 0 0 None None) (from0 0 0 1 (slot 0 0 5) None));
       wanted = (0 ∷ 0 ∷ []) ∷ (5 ∷ []) ∷ (0 ∷ 5 ∷ []) ∷ (0 ∷ 1 ∷ 0 ∷ []) ∷ [] ∷ (0 ∷ 0 ∷ 5 ∷ []) ∷ [];
     }
     -- slot of 5, the maker holds 0: token 0, the source clock still advances
     ∷ record {
-      gives = outcome_numbers (once (station1 0 0 0 NoSlot NoToken) (from0 0 0 1 (slot 0 0 5) NoToken));
+      gives = outcome_numbers (once (station1 0 0 0 None None) (from0 0 0 1 (slot 0 0 5) None));
       wanted = (0 ∷ 0 ∷ []) ∷ (5 ∷ []) ∷ (0 ∷ 0 ∷ []) ∷ (0 ∷ 1 ∷ 0 ∷ []) ∷ [] ∷ (0 ∷ 0 ∷ 0 ∷ []) ∷ [];
     }
     -- the same slot delivered again: no token
     ∷ record {
-      gives = outcome_numbers (again (station1 9 0 0 NoSlot NoToken) (from0 0 0 1 (slot 0 0 5) NoToken));
+      gives = outcome_numbers (again (station1 9 0 0 None None) (from0 0 0 1 (slot 0 0 5) None));
       wanted = (0 ∷ 0 ∷ []) ∷ [] ∷ (0 ∷ 0 ∷ []) ∷ (4 ∷ 1 ∷ 0 ∷ []) ∷ [] ∷ (0 ∷ 0 ∷ 5 ∷ []) ∷ [];
     }
     -- the same token delivered again: value unchanged
     ∷ record {
-      gives = outcome_numbers (again (station1 2 0 1 (slot 0 0 5) NoToken) (from0 3 1 0 NoSlot (token 0 0 5)));
+      gives = outcome_numbers (again (station1 2 0 1 (slot 0 0 5) None) (from0 3 1 0 None (token 0 0 5)));
       wanted = (0 ∷ 0 ∷ []) ∷ [] ∷ (0 ∷ 0 ∷ []) ∷ (7 ∷ 0 ∷ 1 ∷ []) ∷ [] ∷ [] ∷ [];
     }
     -- slot (0,0), a message with source clock 1 and no token, values equal: slot dropped, none
     -- opened
     ∷ record {
-      gives = outcome_numbers (once (station1 4 0 1 (slot 0 0 5) NoToken) (from0 4 1 0 NoSlot NoToken));
+      gives = outcome_numbers (once (station1 4 0 1 (slot 0 0 5) None) (from0 4 1 0 None None));
       wanted = (0 ∷ 0 ∷ []) ∷ (2 ∷ []) ∷ (0 ∷ 0 ∷ []) ∷ (4 ∷ 0 ∷ 1 ∷ []) ∷ [] ∷ [] ∷ [];
     }
     -- intake 999,999,999, add 1: done; add 2: 5

@@ -14,6 +14,9 @@
 -- Not listed: `ground::SourceClock::equals`, `ground::DestinationClock::equals`. They compare.
 -- Not listed: `ground::SourceClock::next`, `ground::DestinationClock::next`. They take any clock.
 -- Not listed: `ground::half`. It takes any difference.
+-- Not listed: `ground::Refusal::number`. It tells what it is given in numbers.
+-- Not listed: `rules::SlotHeld::terms`, `rules::SlotHeld::on`. They take any slot, any terms.
+-- Not listed: `rules::TokenHeld::terms`, `rules::TokenHeld::on`. They take any token, any terms.
 -- Not listed: `station::blank_station`, `rules::no_message`. They make what they are told to.
 -- Not listed: `rules::no_report`. It makes what it is told to.
 -- Not listed: `rules::rules_of`, `steps::numbers_for`. They tell what they are given in numbers.

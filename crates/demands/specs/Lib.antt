@@ -22,3 +22,4 @@ pub mod SpentTokens
 pub mod DrawCases
 pub mod AllOrNone
 pub mod Orders
+pub mod Numbered

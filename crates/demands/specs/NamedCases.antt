@@ -1,10 +1,8 @@
 -- Cases for one condition each, where a condition that is a little off would give another number: a
 -- bound that is met, the other clock, an answer in another's place, a byte.
-use Rattle.std.specs.Prelude.{ℕ, List, [], ◌∷◌, ◌++◌, map}
-use Rattle.rules.specs.declared.held.HeldSlot.{HeldSlot}
-use Rattle.rules.specs.declared.held.HeldSlot.TheVariants.{NoSlot}
-use Rattle.rules.specs.declared.held.HeldToken.{HeldToken}
-use Rattle.rules.specs.declared.held.HeldToken.TheVariants.{NoToken}
+use Rattle.std.specs.Prelude.{ℕ, List, [], ◌∷◌, ◌++◌, map, Option, None}
+use Rattle.rules.specs.declared.held.Token.{Token}
+use Rattle.rules.specs.declared.held.Slot.{Slot}
 use Rattle.rules.specs.declared.message.Message.{Message}
 use Rattle.station.specs.Steps.{blank, receive_of}
 use Rattle.record.specs.Dateless.{record_of}
@@ -23,7 +21,7 @@ abbrev answers_to : Message → List ℕ
 answers_to m = (receive_of (blank 1 3) m).answer ∷ (receive_bytes_of (blank 1 3) (record_of m)).answer ∷ []
 
 -- a message of which no two numbers share a byte
-abbrev written : HeldSlot → HeldToken → Message
+abbrev written : Option Slot → Option Token → Message
 written l t =
     record {
       from = 2;
@@ -35,10 +33,10 @@ written l t =
       token = t;
     }
 
-abbrev a_slot : HeldSlot
+abbrev a_slot : Option Slot
 a_slot = slot 825373492 437984285 8640529670
 
-abbrev a_token : HeldToken
+abbrev a_token : Option Token
 a_token = token 168496141 1094861636 12986025993
 
 -- its bytes: fields 1 to 4, its slot, its token
@@ -69,7 +67,7 @@ named_cases =
     -- value 2, slot of 5, a message with value 13 and the token of 5: filled to 7, and a slot of 3
     -- opened, not of 5
     record {
-      gives = outcome_numbers (receive_of (station1 2 0 1 (slot 0 0 5) NoToken) (from0 13 1 0 NoSlot (token 0 0 5)));
+      gives = outcome_numbers (receive_of (station1 2 0 1 (slot 0 0 5) None) (from0 13 1 0 None (token 0 0 5)));
       wanted = (0 ∷ 5 ∷ []) ∷ (1 ∷ 3 ∷ []) ∷ (3 ∷ 0 ∷ []) ∷ (7 ∷ 0 ∷ 2 ∷ []) ∷ (1 ∷ 1 ∷ 3 ∷ []) ∷ [] ∷ [];
     }
     -- for a station at the count, or above it, which is also for another station: 2; from one at
@@ -86,13 +84,13 @@ named_cases =
     }
     -- the 49 bytes of a record with a token, written and read
     ∷ record {
-      gives = record_of (written NoSlot a_token) ∷ read_as (a_front_bytes ++ a_token_bytes) ∷ [];
-      wanted = (a_front_bytes ++ a_token_bytes) ∷ (0 ∷ 49 ∷ shown_numbers (written NoSlot a_token)) ∷ [];
+      gives = record_of (written None a_token) ∷ read_as (a_front_bytes ++ a_token_bytes) ∷ [];
+      wanted = (a_front_bytes ++ a_token_bytes) ∷ (0 ∷ 49 ∷ shown_numbers (written None a_token)) ∷ [];
     }
     -- the 49 bytes of a record with a slot
     ∷ record {
-      gives = record_of (written a_slot NoToken) ∷ read_as (a_front_bytes ++ a_slot_bytes) ∷ [];
-      wanted = (a_front_bytes ++ a_slot_bytes) ∷ (0 ∷ 49 ∷ shown_numbers (written a_slot NoToken)) ∷ [];
+      gives = record_of (written a_slot None) ∷ read_as (a_front_bytes ++ a_slot_bytes) ∷ [];
+      wanted = (a_front_bytes ++ a_slot_bytes) ∷ (0 ∷ 49 ∷ shown_numbers (written a_slot None)) ∷ [];
     }
     -- the 68 bytes of a record with both
     ∷ record {
@@ -105,26 +103,26 @@ named_cases =
       wanted = (9 ∷ 0 ∷ 0 ∷ 0 ∷ 0 ∷ 0 ∷ 0 ∷ []) ∷ [];
     }
     -- a slot whose destination clock is its holder's; one below it
-    ∷ record { gives = sound_stations (station_holding 3 0 0 1 (slot 4 1 5) NoToken) (station_holding 3 0 0 1 (slot 4 0 5) NoToken); wanted = only_the_second }
+    ∷ record { gives = sound_stations (station_holding 3 0 0 1 (slot 4 1 5) None) (station_holding 3 0 0 1 (slot 4 0 5) None); wanted = only_the_second }
     -- the same in a message
-    ∷ record { gives = sound_messages (from0 0 0 1 (slot 4 1 5) NoToken) (from0 0 0 1 (slot 4 0 5) NoToken); wanted = only_the_second }
+    ∷ record { gives = sound_messages (from0 0 0 1 (slot 4 1 5) None) (from0 0 0 1 (slot 4 0 5) None); wanted = only_the_second }
     -- a token whose source clock is its maker's; one below it
-    ∷ record { gives = sound_stations (station_holding 3 0 1 0 NoSlot (token 1 4 5)) (station_holding 3 0 1 0 NoSlot (token 0 4 5)); wanted = only_the_second }
+    ∷ record { gives = sound_stations (station_holding 3 0 1 0 None (token 1 4 5)) (station_holding 3 0 1 0 None (token 0 4 5)); wanted = only_the_second }
     -- the same in a message
-    ∷ record { gives = sound_messages (from0 0 1 0 NoSlot (token 1 4 5)) (from0 0 1 0 NoSlot (token 0 4 5)); wanted = only_the_second }
+    ∷ record { gives = sound_messages (from0 0 1 0 None (token 1 4 5)) (from0 0 1 0 None (token 0 4 5)); wanted = only_the_second }
     -- a slot for oneself; for another
-    ∷ record { gives = sound_stations (station_holding 3 1 0 1 (slot 4 0 5) NoToken) (station_holding 3 2 0 1 (slot 4 0 5) NoToken); wanted = only_the_second }
+    ∷ record { gives = sound_stations (station_holding 3 1 0 1 (slot 4 0 5) None) (station_holding 3 2 0 1 (slot 4 0 5) None); wanted = only_the_second }
     -- a token for oneself; for another
-    ∷ record { gives = sound_stations (station_holding 3 1 1 0 NoSlot (token 0 4 5)) (station_holding 3 2 1 0 NoSlot (token 0 4 5)); wanted = only_the_second }
+    ∷ record { gives = sound_stations (station_holding 3 1 1 0 None (token 0 4 5)) (station_holding 3 2 1 0 None (token 0 4 5)); wanted = only_the_second }
     -- a slot for the number past the count; with a count one more
-    ∷ record { gives = sound_stations (station_holding 2 2 0 1 (slot 4 0 5) NoToken) (station_holding 3 2 0 1 (slot 4 0 5) NoToken); wanted = only_the_second }
+    ∷ record { gives = sound_stations (station_holding 2 2 0 1 (slot 4 0 5) None) (station_holding 3 2 0 1 (slot 4 0 5) None); wanted = only_the_second }
     -- a token for the number past the count; with a count one more
-    ∷ record { gives = sound_stations (station_holding 2 2 1 0 NoSlot (token 0 4 5)) (station_holding 3 2 1 0 NoSlot (token 0 4 5)); wanted = only_the_second }
+    ∷ record { gives = sound_stations (station_holding 2 2 1 0 None (token 0 4 5)) (station_holding 3 2 1 0 None (token 0 4 5)); wanted = only_the_second }
     -- a slot of 0; of 1
-    ∷ record { gives = sound_stations (station_holding 3 0 0 1 (slot 4 0 0) NoToken) (station_holding 3 0 0 1 (slot 4 0 1) NoToken); wanted = only_the_second }
+    ∷ record { gives = sound_stations (station_holding 3 0 0 1 (slot 4 0 0) None) (station_holding 3 0 0 1 (slot 4 0 1) None); wanted = only_the_second }
     -- a slot past 16,000,000,000; a token of 0
     ∷ record {
-      gives = sound_stations (station_holding 3 0 0 1 (slot 4 0 16000000001) NoToken) (station_holding 3 0 1 0 NoSlot (token 0 4 0));
+      gives = sound_stations (station_holding 3 0 0 1 (slot 4 0 16000000001) None) (station_holding 3 0 1 0 None (token 0 4 0));
       wanted = only_the_second;
     }
     -- a place freed by a loss is used again, and then the one past the last taken

@@ -1,9 +1,7 @@
 -- Stations and messages for the cases, and an outcome as lists of numbers.
-use Rattle.std.specs.Prelude.{ℕ, Bool, true, false, List, [], ◌∷◌, ◌++◌, replicate}
-use Rattle.rules.specs.declared.held.HeldSlot.{HeldSlot}
-use Rattle.rules.specs.declared.held.HeldSlot.TheVariants.{NoSlot, OneSlot}
-use Rattle.rules.specs.declared.held.HeldToken.{HeldToken}
-use Rattle.rules.specs.declared.held.HeldToken.TheVariants.{NoToken, OneToken}
+use Rattle.std.specs.Prelude.{ℕ, Bool, true, false, List, [], ◌∷◌, ◌++◌, replicate, Option, Some, None}
+use Rattle.rules.specs.declared.held.Token.{Token}
+use Rattle.rules.specs.declared.held.Slot.{Slot}
 use Rattle.station.specs.declared.station.Station.{Station}
 use Rattle.rules.specs.declared.message.Message.{Message}
 use Rattle.rules.specs.declared.report.Report.{Report}
@@ -14,29 +12,29 @@ use Rattle.station.specs.Sound.{station_sound, message_sound}
 use Rattle.station.specs.Steps.{blank}
 
 -- station 1 of 2 with this value, clocks, and slot and token for station 0
-abbrev pub station1 : ℕ → ℕ → ℕ → HeldSlot → HeldToken → Station
+abbrev pub station1 : ℕ → ℕ → ℕ → Option Slot → Option Token → Station
 station1 value source destination slot token =
     put_side (blank 1 2) 0 (record { value = value; source = record { 0 = source }; destination = record { 0 = destination }; slot = slot; token = token })
 
 -- station 1 of so many with these clocks, and slot and token for station k
-abbrev pub station_holding : ℕ → ℕ → ℕ → ℕ → HeldSlot → HeldToken → Station
+abbrev pub station_holding : ℕ → ℕ → ℕ → ℕ → Option Slot → Option Token → Station
 station_holding count k source destination slot token =
     put_side (blank 1 count) k (record { value = 0; source = record { 0 = source }; destination = record { 0 = destination }; slot = slot; token = token })
 
 -- a message from a station to a station, with nothing else to it
 abbrev pub bare_message : ℕ → ℕ → Message
-bare_message from to = record { from = from; to = to; value = 0; source = record { 0 = 0 }; destination = record { 0 = 0 }; slot = NoSlot; token = NoToken }
+bare_message from to = record { from = from; to = to; value = 0; source = record { 0 = 0 }; destination = record { 0 = 0 }; slot = None; token = None }
 
 -- what station 0 of 2 shows station 1
-abbrev pub from0 : ℕ → ℕ → ℕ → HeldSlot → HeldToken → Message
+abbrev pub from0 : ℕ → ℕ → ℕ → Option Slot → Option Token → Message
 from0 value source destination slot token =
     record { from = 0; to = 1; value = value; source = record { 0 = source }; destination = record { 0 = destination }; slot = slot; token = token }
 
-abbrev pub slot : ℕ → ℕ → ℕ → HeldSlot
-slot s d q = OneSlot (record { source = record { 0 = s }; destination = record { 0 = d }; quantity = q })
+abbrev pub slot : ℕ → ℕ → ℕ → Option Slot
+slot s d q = Some (record { source = record { 0 = s }; destination = record { 0 = d }; quantity = q })
 
-abbrev pub token : ℕ → ℕ → ℕ → HeldToken
-token s d q = OneToken (record { source = record { 0 = s }; destination = record { 0 = d }; quantity = q })
+abbrev pub token : ℕ → ℕ → ℕ → Option Token
+token s d q = Some (record { source = record { 0 = s }; destination = record { 0 = d }; quantity = q })
 
 -- a number if a rule acted
 abbrev pub if_acted : Bool → ℕ → List ℕ
@@ -46,13 +44,13 @@ if_acted false n = []
 abbrev pub rules_acted : Report → List ℕ
 rules_acted r = if_acted r.rule1 1 ++ if_acted r.rule2 2 ++ if_acted r.rule3 3 ++ if_acted r.rule4 4 ++ if_acted r.rule5 5
 
-abbrev pub slot_numbers : HeldSlot → List ℕ
-slot_numbers NoSlot = []
-slot_numbers (OneSlot l) = l.source.0 ∷ l.destination.0 ∷ l.quantity ∷ []
+abbrev pub slot_numbers : Option Slot → List ℕ
+slot_numbers None = []
+slot_numbers (Some l) = l.source.0 ∷ l.destination.0 ∷ l.quantity ∷ []
 
-abbrev pub token_numbers : HeldToken → List ℕ
-token_numbers NoToken = []
-token_numbers (OneToken t) = t.source.0 ∷ t.destination.0 ∷ t.quantity ∷ []
+abbrev pub token_numbers : Option Token → List ℕ
+token_numbers None = []
+token_numbers (Some t) = t.source.0 ∷ t.destination.0 ∷ t.quantity ∷ []
 
 -- what a message shows: from, to, value and clocks, then the slot and the token
 abbrev pub shown_numbers : Message → List ℕ

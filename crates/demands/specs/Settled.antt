@@ -3,16 +3,18 @@
 -- `Settles`, `SettlesBoth`). A promise is a definition applied to the parameters: to what one that
 -- is lent holds, to any other itself. What one that is lent to be changed holds at the end is named
 -- by its place. `tools/listed` holds each row against the source.
-use Rattle.std.specs.Prelude.{ℕ, ◌≡◌, List, ℤ}
+use Rattle.std.specs.Prelude.{ℕ, ◌≡◌, List, ℤ, Option}
 use Rattle.std.specs.Borrow.{Bor, MutBor}
-use Rattle.rules.specs.declared.held.HeldToken.{HeldToken}
-use Rattle.rules.specs.declared.held.HeldSlot.{HeldSlot}
 use Rattle.demands.specs.Promises.{Settles, SettlesBoth}
+use Rattle.rules.specs.Terms.{slot_terms, slot_on, token_terms, token_on}
+use Rattle.ground.specs.declared.refusal.Refusal.{Refusal}
 use Rattle.ground.specs.declared.clocks.SourceClock.{SourceClock}
 use Rattle.ground.specs.declared.clocks.DestinationClock.{DestinationClock}
 use Rattle.ground.specs.Clocks.{source_in_range, source_above, source_same, source_before_end, source_next, destination_in_range, destination_above, destination_same, destination_before_end, destination_next}
 use Rattle.ground.specs.Half.{half_of}
+use Rattle.ground.specs.Tested.{number_of}
 use Rattle.rules.specs.declared.held.Slot.{Slot}
+use Rattle.rules.specs.declared.held.Terms.{Terms}
 use Rattle.rules.specs.declared.held.Token.{Token}
 use Rattle.rules.specs.declared.message.Message.{Message}
 use Rattle.rules.specs.declared.report.Report.{Report}
@@ -29,7 +31,6 @@ use Rattle.record.specs.Reading.{read_of}
 use Rattle.record.specs.Writing.{WritesGiven}
 use Rattle.record.specs.AtStation.{WritesFor, receive_bytes_of}
 use Rattle.quynhabet.specs.Exports.{Makes, check_of, Adds, Draws, Shows, Receives, Reads, WritesNumbers}
-use Rattle.steps.specs.declared.asked.Asked.{Asked}
 use Rattle.steps.specs.declared.asked.Step.{Step}
 use Rattle.pool.specs.declared.places.Place.{Place}
 use Rattle.table.specs.declared.table.Table.{Table}
@@ -45,6 +46,10 @@ use Rattle.script.specs.Putting.{PutsLines}
 use Rattle.script.specs.Starting.{PutsAnswer, started_of}
 
 pub record Settled : Type 2 where
+  -- the number of a refusal
+  pub ground-Refusal-number : (self : Refusal)
+      → Settles Rattle.ground.specs.contracts.refusal.Refusal.number.ended (λ M 𝓤. Rattle.ground.specs.contracts.refusal.Refusal.number.clauses)
+      (λ κ. (self, tt)) (λ κ r. r ≡ number_of self)
   -- the two clocks, and half of a difference
   pub ground-SourceClock-in_range : (self : SourceClock)
       → Settles Rattle.ground.specs.contracts.clocks.SourceClock.in_range.ended (λ M 𝓤. Rattle.ground.specs.contracts.clocks.SourceClock.in_range.clauses)
@@ -102,6 +107,19 @@ pub record Settled : Type 2 where
   pub rules-rules_of : (report : Report)
       → Settles Rattle.rules.specs.contracts.report.rules_of.ended (λ M 𝓤. Rattle.rules.specs.contracts.report.rules_of.clauses)
       (λ κ. (report, tt)) (λ κ r. r ≡ rules_of report)
+  -- what a slot and a token have in common
+  pub rules-SlotHeld-terms : (self : Slot)
+      → Settles Rattle.rules.specs.contracts.slot.SlotHeld.terms.ended (λ M 𝓤. Rattle.rules.specs.contracts.slot.SlotHeld.terms.clauses)
+      (λ κ. (self, tt)) (λ κ r. r ≡ slot_terms self)
+  pub rules-SlotHeld-on : (terms : Terms)
+      → Settles Rattle.rules.specs.contracts.slot.SlotHeld.on.ended (λ M 𝓤. Rattle.rules.specs.contracts.slot.SlotHeld.on.clauses)
+      (λ κ. (terms, tt)) (λ κ r. r ≡ slot_on terms)
+  pub rules-TokenHeld-terms : (self : Token)
+      → Settles Rattle.rules.specs.contracts.token.TokenHeld.terms.ended (λ M 𝓤. Rattle.rules.specs.contracts.token.TokenHeld.terms.clauses)
+      (λ κ. (self, tt)) (λ κ r. r ≡ token_terms self)
+  pub rules-TokenHeld-on : (terms : Terms)
+      → Settles Rattle.rules.specs.contracts.token.TokenHeld.on.ended (λ M 𝓤. Rattle.rules.specs.contracts.token.TokenHeld.on.clauses)
+      (λ κ. (terms, tt)) (λ κ r. r ≡ token_on terms)
   -- a station
   pub station-fresh : (number count : ℕ)
       → Settles Rattle.station.specs.contracts.steps.fresh.ended (λ M 𝓤. Rattle.station.specs.contracts.steps.fresh.clauses)
@@ -125,10 +143,10 @@ pub record Settled : Type 2 where
   pub station-station_is_sound : (s : Station)
       → Settles Rattle.station.specs.contracts.sound.station_is_sound.ended (λ M 𝓤. Rattle.station.specs.contracts.sound.station_is_sound.clauses)
       (λ κ. (s, tt)) (λ κ r. r ≡ station_sound s)
-  pub station-slot_is_sound : (held : HeldSlot) (clock : DestinationClock)
+  pub station-slot_is_sound : (held : Option Slot) (clock : DestinationClock)
       → Settles Rattle.station.specs.contracts.sound.slot_is_sound.ended (λ M 𝓤. Rattle.station.specs.contracts.sound.slot_is_sound.clauses)
       (λ κ. (held, (clock, tt))) (λ κ r. r ≡ slot_sound held clock)
-  pub station-token_is_sound : (held : HeldToken) (clock : SourceClock)
+  pub station-token_is_sound : (held : Option Token) (clock : SourceClock)
       → Settles Rattle.station.specs.contracts.sound.token_is_sound.ended (λ M 𝓤. Rattle.station.specs.contracts.sound.token_is_sound.clauses)
       (λ κ. (held, (clock, tt))) (λ κ r. r ≡ token_sound held clock)
   pub station-message_is_sound : (m : Message)
@@ -188,7 +206,7 @@ pub record Settled : Type 2 where
   pub steps-run : (t : Table) (codes : Bor (List ℕ)) (told : MutBor (List ℕ))
       → SettlesBoth Rattle.steps.specs.contracts.running.run.ended (λ M 𝓤. Rattle.steps.specs.contracts.running.run.clauses)
       (λ κ. (t, (codes, (told, tt)))) (λ κ e. e.1.1.0.now) (λ κ. Runs t codes.now told.now)
-  pub steps-numbers_for : (asked : Asked)
+  pub steps-numbers_for : (asked : Option Step)
       → Settles Rattle.steps.specs.contracts.asked.numbers_for.ended (λ M 𝓤. Rattle.steps.specs.contracts.asked.numbers_for.clauses)
       (λ κ. (asked, tt)) (λ κ r. r ≡ numbers_for asked)
   pub steps-asked_by : (kind a b : ℕ)

@@ -1,11 +1,9 @@
 -- For each public promise wrong outcomes that it rules out: what it promises at a sample, and what
 -- a wrong build would give there.
-use Rattle.std.specs.Prelude.{ℕ, Bool, true, false, ◌&&◌, not, List, [], ◌∷◌, ◌++◌, eqb, length}
+use Rattle.std.specs.Prelude.{ℕ, Bool, true, false, ◌&&◌, not, List, [], ◌∷◌, ◌++◌, eqb, length, Option, Some, None}
+use Rattle.rules.specs.declared.held.Token.{Token}
+use Rattle.rules.specs.declared.held.Slot.{Slot}
 use Rattle.ground.specs.Choice.{if_done}
-use Rattle.rules.specs.declared.held.HeldSlot.{HeldSlot}
-use Rattle.rules.specs.declared.held.HeldSlot.TheVariants.{NoSlot, OneSlot}
-use Rattle.rules.specs.declared.held.HeldToken.{HeldToken}
-use Rattle.rules.specs.declared.held.HeldToken.TheVariants.{NoToken, OneToken}
 use Rattle.station.specs.declared.station.Station.{Station}
 use Rattle.rules.specs.declared.message.Message.{Message}
 use Rattle.station.specs.declared.outcome.Outcome.{Outcome}
@@ -53,23 +51,23 @@ abbrev pub has_three : Station
 has_three = put_stock (blank 1 2) 3 3
 
 abbrev pub gave : Station
-gave = station1 3 1 0 NoSlot (token 0 0 5)
+gave = station1 3 1 0 None (token 0 0 5)
 
 abbrev pub asked : Station
-asked = station1 2 0 1 (slot 0 0 5) NoToken
+asked = station1 2 0 1 (slot 0 0 5) None
 
 -- a message with a token for that slot, and what it does when it is delivered again
 abbrev pub pays : Message
-pays = from0 3 1 0 NoSlot (token 0 0 5)
+pays = from0 3 1 0 None (token 0 0 5)
 
 -- answer, result, then the buffer
 abbrev wrote : ℕ → List ℕ → List ℕ → List ℕ
 wrote answer bytes before = (answer ∷ if_done answer (length bytes) 0 ∷ []) ++ if_done answer (in_front bytes before) before
 
-abbrev meet : HeldToken → HeldSlot → Bool
-meet (OneToken t) (OneSlot l) = agree t l
-meet (OneToken t) NoSlot = false
-meet NoToken h = false
+abbrev meet : Option Token → Option Slot → Bool
+meet (Some t) (Some l) = agree t l
+meet (Some t) None = false
+meet None h = false
 
 abbrev pub wrongs : List Wrong
 wrongs =
@@ -91,8 +89,8 @@ wrongs =
     ∷ record { promised = answer_and_message 0 no_message; wrong = 0 ∷ 0 ∷ 0 ∷ 1 ∷ 0 ∷ 0 ∷ [] }
     ∷ record { promised = answer_and_message 0 no_message; wrong = 0 ∷ 0 ∷ 1 ∷ 0 ∷ 0 ∷ 0 ∷ [] }
     -- message_is_sound: refuses a token of 0; takes a slot of 0
-    ∷ record { promised = truth (message_sound (from0 3 1 0 NoSlot (token 0 0 0))); wrong = 0 ∷ [] }
-    ∷ record { promised = truth (message_sound (from0 3 0 1 (slot 0 0 0) NoToken)); wrong = 1 ∷ [] }
+    ∷ record { promised = truth (message_sound (from0 3 1 0 None (token 0 0 0))); wrong = 0 ∷ [] }
+    ∷ record { promised = truth (message_sound (from0 3 0 1 (slot 0 0 0) None)); wrong = 1 ∷ [] }
     -- slot_is_sound: takes a destination clock that is not below; refuses a quantity of 1
     ∷ record { promised = truth (slot_sound (slot 0 1 1) (record { 0 = 1 })); wrong = 1 ∷ [] }
     ∷ record { promised = truth (slot_sound (slot 7 0 1) (record { 0 = 1 })); wrong = 0 ∷ [] }
@@ -122,7 +120,7 @@ wrongs =
     ∷ record { promised = flat (outcome_numbers (receive_bytes_of asked (record_of pays ++ (0 ∷ [])))); wrong = flat (outcome_numbers (receive_of asked pays)) }
     ∷ record { promised = stock_of (receive_bytes_of (blank 0 0) []); wrong = 9 ∷ 0 ∷ 0 ∷ 0 ∷ [] }
     -- station_is_sound: takes a station with a token for itself; refuses a value of 16,000,000,000
-    ∷ record { promised = truth (station_sound (put_side (blank 1 2) 1 (record { value = 0; source = record { 0 = 1 }; destination = record { 0 = 0 }; slot = NoSlot; token = token 0 0 5 }))); wrong = 1 ∷ [] }
+    ∷ record { promised = truth (station_sound (put_side (blank 1 2) 1 (record { value = 0; source = record { 0 = 1 }; destination = record { 0 = 0 }; slot = None; token = token 0 0 5 }))); wrong = 1 ∷ [] }
     ∷ record { promised = truth (station_sound (put_stock (blank 1 2) 16000000000 0)); wrong = 0 ∷ [] }
     -- count_is_sound: takes 1; refuses 16
     ∷ record { promised = truth (count_sound 1); wrong = 1 ∷ [] }

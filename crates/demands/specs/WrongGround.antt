@@ -1,8 +1,10 @@
--- Wrong outcomes of the two clocks and of a half.
+-- Wrong outcomes of the two clocks, of a half and of a refusal's number.
 use Rattle.std.specs.Prelude.{List, [], ◌∷◌, pos, negsuc}
 use Rattle.ground.specs.Clocks.{source_in_range, source_above, source_same, source_before_end, source_next, destination_in_range, destination_above, destination_same, destination_before_end, destination_next}
 use Rattle.ground.specs.Half.{half_of}
 use Rattle.ground.specs.Limits.{last_clock}
+use Rattle.ground.specs.declared.refusal.Refusal.TheVariants.{NotSound, TooFew}
+use Rattle.ground.specs.Tested.{number_of}
 use Rattle.demands.specs.Samples.{truth}
 use Rattle.demands.specs.Wrong.{Wrong}
 
@@ -38,4 +40,7 @@ wrong_ground =
     -- half: rounds up; halves what is below 0 too
     ∷ record { promised = half_of (pos 5) ∷ []; wrong = 3 ∷ [] }
     ∷ record { promised = half_of (negsuc 3) ∷ []; wrong = 2 ∷ [] }
+    -- number: begins at 0; is one less
+    ∷ record { promised = number_of NotSound ∷ []; wrong = 0 ∷ [] }
+    ∷ record { promised = number_of TooFew ∷ []; wrong = 14 ∷ [] }
     ∷ []

@@ -1,6 +1,5 @@
 -- Wrong outcomes of the test of a table, and of a run of steps in one call.
-use Rattle.std.specs.Prelude.{ℕ, List, [], ◌∷◌, ◌++◌}
-use Rattle.steps.specs.declared.asked.Asked.TheVariants.{NoStep, OneStep}
+use Rattle.std.specs.Prelude.{ℕ, List, [], ◌∷◌, ◌++◌, Some, None}
 use Rattle.steps.specs.declared.asked.Step.TheVariants.{Deliver}
 use Rattle.table.specs.declared.table.Table.{Table}
 use Rattle.table.specs.Table.{station_at}
@@ -45,8 +44,8 @@ wrong_parts =
     ∷ record { promised = ran ten_sent (5 ∷ 0 ∷ 5 ∷ []) (sevens 5); wrong = 0 ∷ 1 ∷ 15 ∷ 0 ∷ 15 ∷ 0 ∷ 0 ∷ 0 ∷ [] }
     ∷ record { promised = ran ten_sent (5 ∷ 0 ∷ 5 ∷ two_adds) (sevens 15); wrong = (0 ∷ 1 ∷ 10 ∷ 12 ∷ 0 ∷ 0 ∷ 0 ∷ 0 ∷ []) ++ sevens 10 }
     -- numbers_for: names a delivery as a loss; names what is no step as an add
-    ∷ record { promised = numbers_for (OneStep (Deliver 3)); wrong = 4 ∷ 3 ∷ 0 ∷ [] }
-    ∷ record { promised = numbers_for NoStep; wrong = 0 ∷ 0 ∷ 0 ∷ [] }
+    ∷ record { promised = numbers_for (Some (Deliver 3)); wrong = 4 ∷ 3 ∷ 0 ∷ [] }
+    ∷ record { promised = numbers_for None; wrong = 0 ∷ 0 ∷ 0 ∷ [] }
     -- asked_by: reads a loss for a delivery; takes a number above 4 for a loss
     ∷ record { promised = numbers_for (asked_by 3 7 9); wrong = 4 ∷ 7 ∷ 0 ∷ [] }
     ∷ record { promised = numbers_for (asked_by 5 7 9); wrong = 4 ∷ 7 ∷ 0 ∷ [] }

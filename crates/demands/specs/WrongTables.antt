@@ -1,11 +1,9 @@
 -- For each promise of a table wrong outcomes that it rules out, beside those of one station.
-use Rattle.std.specs.Prelude.{ℕ, List, [], ◌∷◌, length, drop, replicate}
-use Rattle.rules.specs.declared.held.HeldSlot.TheVariants.{NoSlot}
+use Rattle.std.specs.Prelude.{ℕ, List, [], ◌∷◌, length, drop, replicate, Option, Some, None}
+use Rattle.rules.specs.declared.message.Message.{Message}
 use Rattle.table.specs.declared.table.Table.{Table}
 use Rattle.steps.specs.declared.asked.Step.TheVariants.{Add, Draw, Send, Deliver, Lose}
 use Rattle.table.specs.declared.stepped.Stepped.{Stepped}
-use Rattle.pool.specs.declared.places.Waiting.{Waiting}
-use Rattle.pool.specs.declared.places.Waiting.TheVariants.{Empty, One}
 use Rattle.pool.specs.declared.places.Place.{Place}
 use Rattle.ground.specs.declared.told.Told.{Told}
 use Rattle.table.specs.Table.{station_at, waiting_at, put_station}
@@ -24,11 +22,11 @@ ten_sent = (step_of (step_of (fresh_table_of 2).table (Add 0 10)).table (Send 0 
 
 -- a table in which station 1 has a token of 5 for station 0, and no slot waits for it
 abbrev stored : Table
-stored = put_station (fresh_table_of 2).table 1 (station1 0 1 0 NoSlot (token 0 0 5))
+stored = put_station (fresh_table_of 2).table 1 (station1 0 1 0 None (token 0 0 5))
 
-abbrev waiting_number : Waiting → ℕ
-waiting_number Empty = 0
-waiting_number (One m) = 1
+abbrev waiting_number : Option Message → ℕ
+waiting_number None = 0
+waiting_number (Some m) = 1
 
 -- answer, result, station 1's destination clock, and whether places 0 and 1 hold a message
 abbrev seen : Stepped → List ℕ
@@ -41,7 +39,7 @@ values r = r.answer ∷ r.result ∷ (station_at r.table 0).value ∷ (station_a
 
 -- 64 empty places
 abbrev free : List Place
-free = replicate 64 (record { waiting = Empty })
+free = replicate 64 (record { waiting = None })
 
 -- answer, result, whether place 0 holds a message, and how many places there are
 abbrev lent_seen : Told → List Place → List ℕ

@@ -5,6 +5,7 @@ ghost use Rattle.demands.specs.Lent.{ReadsLent};
 use record::reading::Reading;
 
 // Bytes that are accepted are what writing their message gives.
+#[tactic(auto, using(record::proofs::WriteRead::accepted_is_written))]
 fn read_lent(bytes: &[u8]) -> Reading
     ensures { ReadsLent bytes.now result }
 {

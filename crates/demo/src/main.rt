@@ -17,22 +17,19 @@ fn tell_station(rt: &impl Print, s: Station) -> io::Result<()> {
 
 // The sender writes its record for the receiver, the receiver takes those bytes.
 fn carry(rt: &impl Print, words: &str, sender: Station, receiver: Station) -> io::Result<Station> {
-    let mut buffer = [0u8; 68];
+    let mut buffer = [0; 68];
     let written = record::write_message(sender, receiver.number as u64, &mut buffer);
-    let size = written.result as usize;
-    if 68 < size {
+    let Some(bytes) = buffer.get(..written.result as usize) else {
         return Ok(receiver);
-    }
-    let taken = record::receive_bytes(receiver, &buffer[..size]);
+    };
+    let taken = record::receive_bytes(receiver, bytes);
     tell(rt, words, taken)?;
     Ok(taken.station)
 }
 
 fn main(rt: HostRuntime) -> io::Result<()> {
-    let first = station::fresh(0, 2);
-    let second = station::fresh(1, 2);
-    let poor = second.station;
-    let added = station::add(first.station, 10);
+    let poor = station::fresh(1, 2).station;
+    let added = station::add(station::fresh(0, 2).station, 10);
     tell(&rt, "station 0 adds 10", added)?;
     let rich = added.station;
     let asks = carry(

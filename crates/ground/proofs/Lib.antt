@@ -8,3 +8,4 @@ pub mod InTurn
 pub mod Refusing
 pub mod Onward
 pub mod Halves
+pub mod Tested

@@ -9,3 +9,4 @@ pub mod Below
 pub mod First
 pub mod Sums
 pub mod InTurn
+pub mod Tested

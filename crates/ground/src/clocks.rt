@@ -5,11 +5,11 @@ ghost use Rattle.ground.specs.Clocks.{source_in_range, source_above, source_same
 use crate::limits::LAST_CLOCK;
 
 // Advanced when a station makes a token.
-#[derive(Clone, Copy)]
+#[derive(Clone, Copy, Debug, PartialEq, Eq, PartialOrd, Ord)]
 pub struct SourceClock(pub u32);
 
 // Advanced when a station opens a slot.
-#[derive(Clone, Copy)]
+#[derive(Clone, Copy, Debug, PartialEq, Eq, PartialOrd, Ord)]
 pub struct DestinationClock(pub u32);
 
 impl SourceClock {
@@ -23,13 +23,13 @@ impl SourceClock {
     pub fn is_above(self, other: SourceClock) -> bool
         ensures { result ≡ source_above self other }
     {
-        other.0 < self.0
+        other < self
     }
 
     pub fn equals(self, other: SourceClock) -> bool
         ensures { result ≡ source_same self other }
     {
-        self.0 == other.0
+        self == other
     }
 
     pub fn before_end(self) -> bool
@@ -42,10 +42,7 @@ impl SourceClock {
     pub fn next(self) -> SourceClock
         ensures { result ≡ source_next self }
     {
-        if LAST_CLOCK <= self.0 {
-            return self;
-        }
-        SourceClock(self.0 + 1)
+        SourceClock(self.0.saturating_add(1))
     }
 }
 
@@ -60,13 +57,13 @@ impl DestinationClock {
     pub fn is_above(self, other: DestinationClock) -> bool
         ensures { result ≡ destination_above self other }
     {
-        other.0 < self.0
+        other < self
     }
 
     pub fn equals(self, other: DestinationClock) -> bool
         ensures { result ≡ destination_same self other }
     {
-        self.0 == other.0
+        self == other
     }
 
     pub fn before_end(self) -> bool
@@ -79,9 +76,6 @@ impl DestinationClock {
     pub fn next(self) -> DestinationClock
         ensures { result ≡ destination_next self }
     {
-        if LAST_CLOCK <= self.0 {
-            return self;
-        }
-        DestinationClock(self.0 + 1)
+        DestinationClock(self.0.saturating_add(1))
     }
 }

@@ -1,70 +1,49 @@
 -- A turn keeps every clause; what is sent now, what arrived and what is stale meet theirs. Assumes
 -- nothing.
-use Prim.Native.Nat.{ℕ, ◌≤◌, ◌<◌}
-use mathlib.Core.Path.{◌≡◌, sym, ap}
-use mathlib.Core.Option.{Option, none, some}
-use mathlib.Core.Logic.{◌⊎◌, inl, inr}
+use Rattle.std.proofs.Common.{Option, Some}
+use Prim.Native.Nat.{ℕ, ◌<◌}
+use mathlib.Core.Path.{◌≡◌, sym}
+use mathlib.Core.Logic.{⊎_elim}
 use native.Mathlib.Omega.{arith}
 use Rattle.handshake.specs.Channel.{Held, Channel, OnTheWay, Event, quiet, departs, arrives}
 use Rattle.handshake.specs.Clauses.{Standing, GiverShows, ReceiverShows, Spent}
-use Rattle.handshake.specs.Turn.{Turn, Opened, Departs, Arrives, Brings}
-
-pub not_both : {A : Type 0} {o : Option A} {x : A} → o ≡ none → o ≡ some x → ⊥
-not_both p q = let z : ◌≡◌ {A = ℕ} 0 1 = cc in omega arith
-
-pub same_one : {A : Type 0} {o : Option A} {x y : A} → o ≡ some x → o ≡ some y → x ≡ y
-same_one p q = cc
+use Rattle.handshake.specs.Turn.{Turn, Departs, Brings}
 
 module _ {P Q : Type 0} where
-  -- the event of a turn, and what it brings
+  -- what the event of a departure brings
   pub departed_by_lem : {c c' : Channel P Q} {e : Event P} {t : Held P} → Brings c c' e → e ≡ departs t → Departs c c' t
   departed_by_lem b p = rw p at b
 
-  pub arrived_by : {c c' : Channel P Q} {e : Event P} {t : Held P} → Brings c c' e → e ≡ arrives t → Arrives c c' t
-  arrived_by b p = rw p at b
-
   -- a token on the way stays while its slot stands
-  stays_stored : (c c' : Channel P Q) (e : Event P) → Brings c c' e → (t : Held P) (l : Held Q) → OnTheWay c t → c'.slot ≡ some l → c'.token ≡ some t
+  stays_stored : (c c' : Channel P Q) (e : Event P) → Brings c c' e → (t : Held P) (l : Held Q) → OnTheWay c t → c'.slot ≡ Some l → c'.token ≡ Some t
   stays_stored c c' quiet b t l o p = (b.still t o).stored
   stays_stored c c' (departs u) b t l o p = absurd (b.none_before t o)
-  stays_stored c c' (arrives u) b t l o p = absurd (not_both b.slot_gone p)
+  stays_stored c c' (arrives u) b t l o p = cc
 
 module _ {P Q : Type 0} {c c' : Channel P Q} {e : Event P} (z : Turn c c' e) where
-  -- a slot that stands, with a destination clock that had passed before, stood before
-  slot_old : (l : Held Q) → c'.slot ≡ some l → l.destination < c.destination → c.slot ≡ some l
-  slot_old l p h = go (z.slot_from l p)
-    where
-      go : (c.slot ≡ some l) ⊎ Opened c c' l → c.slot ≡ some l
-      go (inl q) = q
-      go (inr q) = absurd (omega (arith, q.own_clock))
+  -- what the event of a turn brings
+  pub brought : {f : Event P} → e ≡ f → Brings c c' f
+  brought p = rw p at z.brings
 
-  token_old : (t : Held P) → c'.token ≡ some t → t.source < c.source → c.token ≡ some t
-  token_old t p h = go (z.token_from t p)
-    where
-      go : (c.token ≡ some t) ⊎ (e ≡ departs t) → c.token ≡ some t
-      go (inl q) = q
-      go (inr q) = absurd (omega (arith, (departed_by_lem z.brings q).own_clock))
+  -- a slot that stands, with a destination clock that had passed before, stood before
+  slot_old : (l : Held Q) → c'.slot ≡ Some l → l.destination < c.destination → c.slot ≡ Some l
+  slot_old l p h = ⊎_elim (λ q. q) (λ o. absurd (omega (arith, o.own_clock))) (z.slot_from l p)
+
+  token_old : (t : Held P) → c'.token ≡ Some t → t.source < c.source → c.token ≡ Some t
+  token_old t p h = ⊎_elim (λ q. q) (λ d. absurd (omega (arith, (brought d).own_clock))) (z.token_from t p)
 
   pub standing_kept : Standing c → Standing c'
   standing_kept h = record {
-    token_source = λ t p. by_token t (λ q. omega (arith, h.token_source t q, z.source_rises)) (λ d. d.advanced) (z.token_from t p);
-    token_destination = λ t p. by_token t (λ q. omega (arith, h.token_destination t q, z.destination_rises)) (λ d. slot_below d) (z.token_from t p);
-    slot_source = λ l p. by_slot l (λ q. omega (arith, h.slot_source l q, z.source_rises)) (λ o. omega (arith, o.source, z.source_rises)) (z.slot_from l p);
-    slot_destination = λ l p. by_slot l (λ q. omega (arith, h.slot_destination l q, z.destination_rises)) (λ o. o.advanced) (z.slot_from l p);
+    token_source = λ t p. ⊎_elim (λ q. omega (arith, h.token_source t q, z.source_rises)) (λ d. (brought {f = departs t} d).advanced) (z.token_from t p);
+    token_destination = λ t p. ⊎_elim (λ q. omega (arith, h.token_destination t q, z.destination_rises)) (λ d. slot_below (brought d)) (z.token_from t p);
+    slot_source = λ l p. ⊎_elim (λ q. omega (arith, h.slot_source l q, z.source_rises)) (λ o. omega (arith, o.source, z.source_rises)) (z.slot_from l p);
+    slot_destination = λ l p. ⊎_elim (λ q. omega (arith, h.slot_destination l q, z.destination_rises)) (λ o. o.advanced) (z.slot_from l p);
   }
     where
-      by_token : {A : Type 0} (t : Held P) → (c.token ≡ some t → A) → (Departs c c' t → A) → (c.token ≡ some t) ⊎ (e ≡ departs t) → A
-      by_token t f g (inl q) = f q
-      by_token t f g (inr q) = g (departed_by_lem z.brings q)
-
-      by_slot : {A : Type 0} (l : Held Q) → (c.slot ≡ some l → A) → (Opened c c' l → A) → (c.slot ≡ some l) ⊎ Opened c c' l → A
-      by_slot l f g (inl q) = f q
-      by_slot l f g (inr q) = g q
-
       slot_below : {t : Held P} → Departs c c' t → t.destination < c'.destination
       slot_below d =
           let o = d.on_the_way in
-          by_slot o.slot (λ q. omega (arith, h.slot_destination o.slot q, z.destination_rises, o.destination)) (λ q. omega (arith, q.advanced, o.destination)) (z.slot_from o.slot o.stands)
+          ⊎_elim (λ q. omega (arith, h.slot_destination o.slot q, z.destination_rises, o.destination)) (λ q. omega (arith, q.advanced, o.destination)) (z.slot_from o.slot o.stands)
 
   pub giver_kept : {clock : ℕ} {token : Option (Held P)} → GiverShows c clock token → GiverShows c' clock token
   giver_kept h = record {
@@ -81,18 +60,12 @@ module _ {P Q : Type 0} {c c' : Channel P Q} {e : Event P} (z : Turn c c' e) whe
   receiver_kept {clock} {slot} h = record {
     clock_reached = omega (arith, h.clock_reached, z.destination_rises);
     shown_destination = h.shown_destination;
-    none_shown_newer = λ l p n. newer l (z.slot_from l p) (λ q. h.none_shown_newer l q n) (omega (arith, h.clock_reached));
-    one_shown_newer = λ l k p q. newer l (z.slot_from l p) (λ r. h.one_shown_newer l k r q) (omega (arith, h.clock_reached, h.shown_destination k q));
-    stands_till_passed = λ k q s. till k (z.slot_goes k (h.stands_till_passed k q (omega (arith, z.source_rises)))) s;
+    none_shown_newer = λ l p n. ⊎_elim (λ q. h.none_shown_newer l q n) (λ o. omega (arith, h.clock_reached, o.own_clock)) (z.slot_from l p);
+    one_shown_newer = λ l k p q.
+        ⊎_elim (λ s. h.one_shown_newer l k s q) (λ o. omega (arith, h.clock_reached, h.shown_destination k q, o.own_clock)) (z.slot_from l p);
+    stands_till_passed = λ k q s.
+        ⊎_elim (λ p. p) (λ b. absurd (omega (arith, z.source_rises))) (z.slot_goes k (h.stands_till_passed k q (omega (arith, z.source_rises))));
   }
-    where
-      newer : {n : ℕ} (l : Held Q) → (c.slot ≡ some l) ⊎ Opened c c' l → (c.slot ≡ some l → n ≤ l.destination) → n ≤ c.destination → n ≤ l.destination
-      newer l (inl q) f b = f q
-      newer l (inr o) f b = omega (arith, o.own_clock)
-
-      till : (k : Held Q) → (c'.slot ≡ some k) ⊎ (k.source < c.source) → c'.source ≤ k.source → c'.slot ≡ some k
-      till k (inl q) s = q
-      till k (inr b) s = absurd (omega (arith, z.source_rises))
 
   pub spent_kept : {s d : ℕ} → Spent c s d → Spent c' s d
   spent_kept h = record {
@@ -103,14 +76,14 @@ module _ {P Q : Type 0} {c c' : Channel P Q} {e : Event P} (z : Turn c c' e) whe
   -- what arrives is spent from then on, and what is spent does not arrive
   pub arrived_spent : (t : Held P) → Standing c → e ≡ arrives t → Spent c' t.source t.destination
   arrived_spent t h p =
-      let a = arrived_by z.brings p in
+      let a = brought p in
       record {
         passed = omega (arith, h.token_destination t a.on_the_way.stored, z.destination_rises);
-        no_slot = λ l q _ _. not_both a.slot_gone q;
+        no_slot = λ l q _ _. cc;
       }
 
   pub spent_stays_out : (t : Held P) → Spent c t.source t.destination → e ≡ arrives t → ⊥
-  spent_stays_out t h p = let o = (arrived_by z.brings p).on_the_way in h.no_slot o.slot o.stands (sym o.source) (sym o.destination)
+  spent_stays_out t h p = let o = (brought p).on_the_way in h.no_slot o.slot o.stands (sym o.source) (sym o.destination)
 
 module _ {P Q : Type 0} {c : Channel P Q} (h : Standing c) where
   -- a message sent now
@@ -127,13 +100,13 @@ module _ {P Q : Type 0} {c : Channel P Q} (h : Standing c) where
   receiver_now = record {
     clock_reached = omega arith;
     shown_destination = h.slot_destination;
-    none_shown_newer = λ l p n. absurd (not_both n p);
-    one_shown_newer = λ l k p q. let e = ap (λ (x : Held Q). x.destination) (same_one p q) in omega arith;
+    none_shown_newer = λ l p n. cc;
+    one_shown_newer = λ l k p q. let e : k.destination ≡ l.destination = cc in omega arith;
     stands_till_passed = λ k p s. p;
   }
 
   -- a stored token that is not on the way is spent
-  pub stale_spent : (t : Held P) → c.token ≡ some t → (OnTheWay c t → ⊥) → Spent c t.source t.destination
+  pub stale_spent : (t : Held P) → c.token ≡ Some t → (OnTheWay c t → ⊥) → Spent c t.source t.destination
   stale_spent t p n = record {
     passed = h.token_destination t p;
     no_slot = λ l q a b. n (record { slot = l; stored = p; stands = q; source = sym a; destination = sym b });

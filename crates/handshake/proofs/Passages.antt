@@ -7,9 +7,8 @@ use mathlib.Core.Logic.{◌⊎◌, inl, inr}
 use native.Mathlib.Omega.{arith}
 use Rattle.handshake.specs.Channel.{Event, quiet}
 use Rattle.handshake.specs.Clauses.{Spent}
-use Rattle.handshake.specs.History.{Transfer, Entry, arrival, entries, at, In, departed, arrived}
+use Rattle.handshake.specs.History.{Transfer, Entry, arrival, entries, In, departed, arrived}
 use Rattle.handshake.specs.Web.{Web, Letter, Holds, Moves, on_all_ways}
-use Rattle.handshake.proofs.Keeps.{not_both}
 use Rattle.handshake.proofs.Histories.{in_either, departed_both, arrived_both}
 use Rattle.handshake.proofs.Webs.{moves_keep, moves_spent, moves_out, wrote_arrival}
 use Rattle.handshake.proofs.Weighs.{moves_weigh}
@@ -28,10 +27,10 @@ pub record Passage {P Q : Type 0} (w : P → ℕ) (n : ℕ) (W W' : Web P Q) (Wa
 
 module _ {P Q : Type 0} {w : P → ℕ} {n : ℕ} {Waits : Letter P Q → Type 0} {H : List (Entry P)} where
   pub rest : {W W' : Web P Q} → W ≡ W' → Holds W Waits H → Passage w n W W' Waits H []
-  unfolding at departed arrived
+  unfolding departed arrived
   rest {W} {W'} e h =
       subst (λ (X : Web P Q). Passage w n W X Waits H []) e
-      (record { holds = rw append-nil h; weighs = refl; spent = λ a b s d p. p; stays_out = λ x p i. not_both refl i.1 })
+      (record { holds = rw append-nil h; weighs = refl; spent = λ a b s d p. p; stays_out = λ x p i. let e = i.1 in cc })
 
   module _ {W W₁ W₂ : Web P Q} {K : List (Entry P)} {g r : ℕ} {e : Event P} (before : Passage w n W W₁ Waits H K) (move : Moves W₁ W₂ g r e) where
     out : (x : Transfer P) → SpentIn W x → In (arrival x) K ⊎ In (arrival x) (entries g r e) → ⊥

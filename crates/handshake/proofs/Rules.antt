@@ -1,17 +1,13 @@
 -- The rules of receiving are turns: what a rule sees of an old message is enough for what a turn
 -- asks of the other end now. Assumes nothing.
+use Rattle.std.proofs.Common.{Option, Some, None}
 use Prim.Native.Nat.{ℕ, ◌≤◌, ◌<◌}
-use mathlib.Core.Path.{◌≡◌, refl, sym, ap, ◌∙◌}
-use mathlib.Core.Option.{Option, none, some}
+use mathlib.Core.Path.{◌≡◌, refl}
 use mathlib.Core.Logic.{◌⊎◌, inl, inr}
 use native.Mathlib.Omega.{arith}
 use Rattle.handshake.specs.Channel.{Held, Channel, OnTheWay, Event, quiet, departs, arrives}
 use Rattle.handshake.specs.Clauses.{Standing, GiverShows, ReceiverShows}
 use Rattle.handshake.specs.Turn.{Turn, Opened, Brings}
-use Rattle.handshake.proofs.Keeps.{not_both, same_one}
-
-source_of : {Q : Type 0} {o : Option (Held Q)} {k l : Held Q} → o ≡ some k → o ≡ some l → k.source ≡ l.source
-source_of {Q} p q = ap (λ (x : Held Q). x.source) (same_one p q)
 
 module _ {P Q : Type 0} where
   -- a channel with another slot, or another token, and the clock that may have advanced
@@ -37,21 +33,21 @@ module _ {P Q : Type 0} where
   }
 
   -- a slot that goes
-  slot_gone : (c : Channel P Q) {e : Event P} (l : Held Q) → c.slot ≡ some l → l.source < c.source → Brings c (with_slot c c.destination none) e
-      → Turn c (with_slot c c.destination none) e
+  slot_gone : (c : Channel P Q) {e : Event P} (l : Held Q) → c.slot ≡ Some l → l.source < c.source → Brings c (with_slot c c.destination None) e
+      → Turn c (with_slot c c.destination None) e
   slot_gone c l p h b = record {
     source_rises = omega arith;
     destination_rises = omega arith;
     token_from = λ t e. inl e;
-    slot_from = λ k e. absurd (not_both refl e);
-    slot_goes = λ k e. inr (omega (arith, source_of e p));
+    slot_from = λ k e. cc;
+    slot_goes = λ k e. let s : k.source ≡ l.source = cc in inr (omega arith);
     brings = b;
   }
 
   module _ (c : Channel P Q) {clock : ℕ} {token : Option (Held P)} (m : GiverShows c clock token) where
     -- 1. Fill
-    pub fills : (t : Held P) (l : Held Q) → token ≡ some t → c.slot ≡ some l → t.source ≡ l.source → t.destination ≡ l.destination
-        → Turn c (with_slot c c.destination none) (arrives t)
+    pub fills : (t : Held P) (l : Held Q) → token ≡ Some t → c.slot ≡ Some l → t.source ≡ l.source → t.destination ≡ l.destination
+        → Turn c (with_slot c c.destination None) (arrives t)
     fills t l p q s d =
         slot_gone c l q (omega (arith, m.shown_source t p, m.clock_reached))
         (record {
@@ -60,82 +56,80 @@ module _ {P Q : Type 0} where
         })
 
     -- 2. Drop slot, where the shown token does not fit it
-    pub drops_slot : (l : Held Q) → c.slot ≡ some l → l.source < clock
-        → ((t : Held P) → token ≡ some t → t.source ≡ l.source → t.destination ≡ l.destination → ⊥)
-        → Turn c (with_slot c c.destination none) quiet
+    pub drops_slot : (l : Held Q) → c.slot ≡ Some l → l.source < clock
+        → ((t : Held P) → token ≡ Some t → t.source ≡ l.source → t.destination ≡ l.destination → ⊥)
+        → Turn c (with_slot c c.destination None) quiet
     drops_slot l q h misfit =
         slot_gone c l q (omega (arith, m.clock_reached))
-        (record { still = λ t o. absurd (none_on_way t o); nothing_new = λ t o. absurd (not_both refl o.stands) })
+        (record { still = λ t o. absurd (none_on_way t o); nothing_new = λ t o. cc })
       where
         none_on_way : (t : Held P) → OnTheWay c t → ⊥
         none_on_way t o =
-            let e = same_one q o.stands in
-            let s : t.source ≡ l.source = o.source ∙ sym (ap (λ (x : Held Q). x.source) e) in
-            let d : t.destination ≡ l.destination = o.destination ∙ sym (ap (λ (x : Held Q). x.destination) e) in
-            misfit t (m.older_was_shown t o.stored (omega arith)) s d
+            let s : t.source ≡ l.source = cc in
+            misfit t (m.older_was_shown t o.stored (omega arith)) s (cc)
 
     -- 3. Open slot, with the shown clock and the receiver's own, which advances
-    pub opens_slot : Standing c → (l : Held Q) {next : ℕ} → c.slot ≡ none → l.source ≡ clock → l.destination ≡ c.destination → c.destination < next
-        → Turn c (with_slot c next (some l)) quiet
+    pub opens_slot : Standing c → (l : Held Q) {next : ℕ} → c.slot ≡ None → l.source ≡ clock → l.destination ≡ c.destination → c.destination < next
+        → Turn c (with_slot c next (Some l)) quiet
     opens_slot h l {next} q s d n = record {
       source_rises = omega arith;
       destination_rises = omega arith;
       token_from = λ t e. inl e;
-      slot_from = λ k e. inr (opened k (same_one refl e));
-      slot_goes = λ k e. absurd (not_both q e);
-      brings = record { still = λ t o. absurd (not_both q o.stands); nothing_new = λ t o. absurd (too_new t o) };
+      slot_from = λ k e. inr (opened k (cc));
+      slot_goes = λ k e. cc;
+      brings = record { still = λ t o. cc; nothing_new = λ t o. absurd (too_new t o) };
     }
       where
-        opened : (k : Held Q) → l ≡ k → Opened c (with_slot c next (some l)) k
+        opened : (k : Held Q) → l ≡ k → Opened c (with_slot c next (Some l)) k
         opened k e =
-            let ks = ap (λ (x : Held Q). x.source) e in
-            let kd = ap (λ (x : Held Q). x.destination) e in
+            let ks : l.source ≡ k.source = cc in
+            let kd : l.destination ≡ k.destination = cc in
             record { source = omega (arith, m.clock_reached); own_clock = omega arith; advanced = omega arith }
 
-        too_new : (t : Held P) → OnTheWay (with_slot c next (some l)) t → ⊥
+        too_new : (t : Held P) → OnTheWay (with_slot c next (Some l)) t → ⊥
         too_new t o =
-            let e = ap (λ (x : Held Q). x.destination) (same_one refl o.stands) in
+            let e : l.destination ≡ o.slot.destination = cc in
             omega (arith, h.token_destination t o.stored, o.destination)
 
   module _ (c : Channel P Q) {clock : ℕ} {slot : Option (Held Q)} (m : ReceiverShows c clock slot) where
     -- 4. Drop token, where what is shown tells that no slot waits for it any more: no slot, and a
     -- clock that has passed it, or a slot that is newer than it
-    pub drops_token : (t : Held P) → c.token ≡ some t
-        → ((slot ≡ none) × (t.destination < clock)) ⊎ ((k : Held Q) × (slot ≡ some k) × (t.destination < k.destination))
-        → Turn c (with_token c c.source none) quiet
+    pub drops_token : (t : Held P) → c.token ≡ Some t
+        → ((slot ≡ None) × (t.destination < clock)) ⊎ ((k : Held Q) × (slot ≡ Some k) × (t.destination < k.destination))
+        → Turn c (with_token c c.source None) quiet
     drops_token t p past =
         record {
           source_rises = omega arith;
           destination_rises = omega arith;
-          token_from = λ u e. absurd (not_both refl e);
+          token_from = λ u e. cc;
           slot_from = λ l e. inl e;
           slot_goes = λ l e. inl e;
-          brings = record { still = λ u o. absurd (none_on_way u o); nothing_new = λ u o. absurd (not_both refl o.stored) };
+          brings = record { still = λ u o. absurd (none_on_way u o); nothing_new = λ u o. cc };
         }
       where
-        newer : (l : Held Q) → c.slot ≡ some l → ((slot ≡ none) × (t.destination < clock)) ⊎ ((k : Held Q) × (slot ≡ some k) × (t.destination < k.destination))
+        newer : (l : Held Q) → c.slot ≡ Some l → ((slot ≡ None) × (t.destination < clock)) ⊎ ((k : Held Q) × (slot ≡ Some k) × (t.destination < k.destination))
             → t.destination < l.destination
         newer l q (inl x) = omega (arith, m.none_shown_newer l q x.0, x.1)
         newer l q (inr x) = omega (arith, m.one_shown_newer l x.0 q x.1, x.2)
 
         none_on_way : (u : Held P) → OnTheWay c u → ⊥
         none_on_way u o =
-            let e = ap (λ (x : Held P). x.destination) (same_one p o.stored) in
+            let e : t.destination ≡ u.destination = cc in
             omega (arith, newer o.slot o.stands past, o.destination)
 
     -- 5. Make token, for a shown slot with the giver's own clock, which advances
-    pub makes_token : Standing c → (t : Held P) (k : Held Q) {next : ℕ} → slot ≡ some k → k.source ≡ c.source → c.source < next → t.source ≡ k.source
-        → t.destination ≡ k.destination → Turn c (with_token c next (some t)) (departs t)
+    pub makes_token : Standing c → (t : Held P) (k : Held Q) {next : ℕ} → slot ≡ Some k → k.source ≡ c.source → c.source < next → t.source ≡ k.source
+        → t.destination ≡ k.destination → Turn c (with_token c next (Some t)) (departs t)
     makes_token h t k {next} q s n ts td =
         let stands = m.stands_till_passed k q (omega arith) in
         record {
           source_rises = omega arith;
           destination_rises = omega arith;
-          token_from = λ u e. inr (ap departs (same_one refl e));
+          token_from = λ u e. inr (cc);
           slot_from = λ l e. inl e;
           slot_goes = λ l e. inl e;
           brings = record {
-            none_before = λ u o. omega (arith, h.token_source u o.stored, o.source, source_of stands o.stands);
+            none_before = λ u o. let same : k.source ≡ o.slot.source = cc in omega (arith, h.token_source u o.stored, o.source);
             on_the_way = record { slot = k; stored = refl; stands = stands; source = ts; destination = td };
             own_clock = omega arith;
             advanced = omega arith;

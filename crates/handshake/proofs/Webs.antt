@@ -1,36 +1,33 @@
 -- What holds of a web at all times is kept: by a move of one channel, by sends and losses of
 -- letters, and it holds at the start. Assumes nothing.
+use Rattle.std.proofs.Common.{Some, None}
 use Prim.Native.Nat.{ℕ, ◌<◌}
 use mathlib.Core.Path.{◌≡◌, refl, subst}
 use mathlib.Core.List.{List, [], ◌++◌, append-nil}
-use mathlib.Core.Option.{none, some}
 use mathlib.Core.Logic.{◌⊎◌, inl, inr, ⊎_elim}
 use native.Mathlib.Omega.{arith}
 use native.Mathlib.Decide.{ℕ_discrete}
 use Rattle.handshake.specs.Channel.{Held, Event, quiet, departs, arrives}
 use Rattle.handshake.specs.Clauses.{Spent}
 use Rattle.handshake.specs.Turn.{Turn}
-use Rattle.handshake.specs.History.{Transfer, transfer, Entry, departure, arrival, entries, at, In, Pairing}
+use Rattle.handshake.specs.History.{Transfer, transfer, Entry, departure, arrival, entries, In, Pairing}
 use Rattle.handshake.specs.Web.{Web, Letter, LetterShows, Holds, Moves, Present}
-use Rattle.handshake.proofs.Keeps.{not_both, departed_by_lem, arrived_by, standing_kept, giver_kept, receiver_kept, spent_kept, arrived_spent, spent_stays_out, giver_now, receiver_now}
+use Rattle.handshake.proofs.Keeps.{brought, standing_kept, giver_kept, receiver_kept, spent_kept, arrived_spent, spent_stays_out, giver_now, receiver_now}
 use Rattle.handshake.proofs.Histories.{at_one, in_front_lem, in_back, in_either, pairing_none, pairing_departs, pairing_arrives}
 
 -- an entry that a turn of the channel from g to r writes is its own event
 module _ {P : Type 0} (g r : ℕ) where
   wrote_departure : (e : Event P) {x : Transfer P} → In (departure x) (entries g r e) → (t : Held P) × (transfer g r t ≡ x) × (e ≡ departs t)
-  unfolding at
-  wrote_departure quiet p = absurd (not_both refl p.1)
+  wrote_departure quiet p = cc
   wrote_departure (departs t) p = let e = (at_one p.0 p.1).1 in (t, (cc), refl)
-  wrote_departure (arrives t) p = let e = (at_one p.0 p.1).1 in let z : ◌≡◌ {A = ℕ} 0 1 = cc in absurd (omega arith)
+  wrote_departure (arrives t) p = let e = (at_one p.0 p.1).1 in cc
 
   pub wrote_arrival : (e : Event P) {x : Transfer P} → In (arrival x) (entries g r e) → (t : Held P) × (transfer g r t ≡ x) × (e ≡ arrives t)
-  unfolding at
-  wrote_arrival quiet p = absurd (not_both refl p.1)
-  wrote_arrival (departs t) p = let e = (at_one p.0 p.1).1 in let z : ◌≡◌ {A = ℕ} 0 1 = cc in absurd (omega arith)
+  wrote_arrival quiet p = cc
+  wrote_arrival (departs t) p = let e = (at_one p.0 p.1).1 in cc
   wrote_arrival (arrives t) p = let e = (at_one p.0 p.1).1 in (t, (cc), refl)
 
   writes_departure : {e : Event P} {t : Held P} → e ≡ departs t → In (departure (transfer g r t)) (entries g r e)
-  unfolding at
   writes_departure p = rw p (0, refl)
 
 -- a turn of the channel from a to b, and what departs in it is among the entries E
@@ -43,7 +40,7 @@ module _ {P Q : Type 0} {W W' : Web P Q} {g r : ℕ} {e : Event P} (z : Moves W 
   turned a b = go (ℕ_discrete a g) (ℕ_discrete b r)
     where
       quietly : (a ≡ g → b ≡ r → ⊥) → TurnIn W W' a b (entries g r e)
-      quietly n = (quiet, z.elsewhere a b n, λ t p. let z : ◌≡◌ {A = ℕ} 0 1 = cc in absurd (omega arith))
+      quietly n = (quiet, z.elsewhere a b n, λ t p. cc)
 
       go : Dec (a ≡ g) → Dec (b ≡ r) → TurnIn W W' a b (entries g r e)
       go (yes p) (yes q) = rw (p, q) (e, z.here, λ t s. writes_departure g r s)
@@ -63,7 +60,7 @@ module _ {P Q : Type 0} {W W' : Web P Q} {g r : ℕ} {e : Event P} (z : Moves W 
     departures_kept x (inl p) = omega (arith, h.departures x.maker x.receiver x.token p, (turned x.maker x.receiver).1.source_rises)
     departures_kept x (inr p) =
         let d = wrote_departure g r e p in
-        subst (λ (y : Transfer P). y.token.source < (W' y.maker y.receiver).source) d.1 (departed_by_lem z.here.brings d.2).advanced
+        subst (λ (y : Transfer P). y.token.source < (W' y.maker y.receiver).source) d.1 (brought z.here d.2).advanced
 
     arrivals_kept : (x : Transfer P) → In (arrival x) H ⊎ In (arrival x) (entries g r e) → Spent (W' x.maker x.receiver) x.token.source x.token.destination
     arrivals_kept x (inl p) = moves_spent x.maker x.receiver (h.arrivals x.maker x.receiver x.token p)
@@ -71,7 +68,7 @@ module _ {P Q : Type 0} {W W' : Web P Q} {g r : ℕ} {e : Event P} (z : Moves W 
         let d = wrote_arrival g r e p in
         subst (λ (y : Transfer P). Spent (W' y.maker y.receiver) y.token.source y.token.destination) d.1 (arrived_spent z.here d.0 (h.standing g r) d.2)
 
-    stored_kept : (a b : ℕ) (t : Held P) → (W' a b).token ≡ some t → In (departure (transfer a b t)) (H ++ entries g r e)
+    stored_kept : (a b : ℕ) (t : Held P) → (W' a b).token ≡ Some t → In (departure (transfer a b t)) (H ++ entries g r e)
     stored_kept a b t p =
         let k = turned a b in
         ⊎_elim (λ q. in_front_lem H (entries g r e) (h.stored a b t q)) (λ q. in_back H (entries g r e) (k.2 t q)) (k.1.token_from t p)
@@ -81,8 +78,8 @@ module _ {P Q : Type 0} {W W' : Web P Q} {g r : ℕ} {e : Event P} (z : Moves W 
     pairing_kept : (i : Event P) → e ≡ i → Pairing (H ++ entries g r i)
     pairing_kept quiet p = rw append-nil h.pairing
     pairing_kept (departs t) p = pairing_departs h.pairing (transfer g r t) λ i y q b.
-        omega (arith, (departed_by_lem z.here.brings p).own_clock, rw (b.maker, b.receiver) at (h.departures y.maker y.receiver y.token (i, q)), b.source)
-    pairing_kept (arrives t) p = pairing_arrives h.pairing (transfer g r t) (h.stored g r t (arrived_by z.here.brings p).on_the_way.stored) λ i y q b.
+        omega (arith, (brought z.here p).own_clock, rw (b.maker, b.receiver) at (h.departures y.maker y.receiver y.token (i, q)), b.source)
+    pairing_kept (arrives t) p = pairing_arrives h.pairing (transfer g r t) (h.stored g r t (brought z.here p).on_the_way.stored) λ i y q b.
         moves_out t p (rw (b.maker, b.receiver, b.source, b.destination) at (h.arrivals y.maker y.receiver y.token (i, q)))
 
     pub moves_keep : Holds W' Waits (H ++ entries g r e)
@@ -118,19 +115,18 @@ module _ {P Q : Type 0} {W : Web P Q} where
       }
 
   -- at the start nothing is stored, stands or waits
-  pub fresh_web : {Waits : Letter P Q → Type 0} → ((g r : ℕ) → (W g r).token ≡ none) → ((g r : ℕ) → (W g r).slot ≡ none) → ((m : Letter P Q) → Waits m → ⊥)
+  pub fresh_web : {Waits : Letter P Q → Type 0} → ((g r : ℕ) → (W g r).token ≡ None) → ((g r : ℕ) → (W g r).slot ≡ None) → ((m : Letter P Q) → Waits m → ⊥)
       → Holds W Waits []
-  unfolding at
   fresh_web token slot waits = record {
     standing = λ g r. record {
-      token_source = λ t p. absurd (not_both (token g r) p);
-      token_destination = λ t p. absurd (not_both (token g r) p);
-      slot_source = λ l p. absurd (not_both (slot g r) p);
-      slot_destination = λ l p. absurd (not_both (slot g r) p);
+      token_source = λ t p. let e = token g r in cc;
+      token_destination = λ t p. let e = token g r in cc;
+      slot_source = λ l p. let e = slot g r in cc;
+      slot_destination = λ l p. let e = slot g r in cc;
     };
     shown = λ m i. absurd (waits m i);
-    departures = λ g r t p. absurd (not_both refl p.1);
-    arrivals = λ g r t p. absurd (not_both refl p.1);
-    stored = λ g r t p. absurd (not_both (token g r) p);
+    departures = λ g r t p. cc;
+    arrivals = λ g r t p. cc;
+    stored = λ g r t p. let e = token g r in cc;
     pairing = pairing_none;
   }

@@ -1,9 +1,9 @@
 -- What is on the way, weighed: a departure adds to it, an arrival takes from it, and nothing else
 -- changes it. Assumes nothing.
+use Rattle.std.proofs.Common.{Option, Some, None}
 use Prim.Native.Nat.{ℕ, ◌+◌, ◌<◌}
 use mathlib.Core.Path.{◌≡◌, refl}
-use mathlib.Core.Bool.{Bool, true, false, cond, ◌&&◌}
-use mathlib.Core.Option.{Option, none, some}
+use mathlib.Core.Bool.{◌&&◌}
 use mathlib.Core.Logic.{◌⊎◌, inl, inr, ⊎_elim}
 use native.Mathlib.Omega.{arith}
 use lib.Dec.{eqb}
@@ -12,7 +12,7 @@ use Rattle.handshake.specs.Channel.{Held, Channel, OnTheWay, Event, quiet, depar
 use Rattle.handshake.specs.Turn.{Turn, Stays}
 use Rattle.handshake.specs.History.{entries, departed, arrived}
 use Rattle.handshake.specs.Web.{Web, Moves, weigh, weight, on_all_ways}
-use Rattle.handshake.proofs.Keeps.{not_both}
+use Rattle.ground.proofs.Choices.{chosen}
 use Rattle.ground.proofs.Tests.{both_same}
 use Rattle.ground.proofs.Sums.{pairs_one}
 
@@ -25,16 +25,14 @@ module _ {P Q : Type 0} (w : P → ℕ) where
   on_or_none c = go c.token c.slot refl refl
     where
       go : (token : Option (Held P)) (slot : Option (Held Q)) → c.token ≡ token → c.slot ≡ slot → ((t : Held P) × OnTheWay c t) ⊎ (weigh w token slot ≡ 0)
-      go none slot p q = inr refl
-      go (some t) none p q = inr refl
-      go (some t) (some l) p q = test (eqb t.source l.source && eqb t.destination l.destination) refl
-        where
-          test : (b : Bool) → (eqb t.source l.source && eqb t.destination l.destination) ≡ b
-              → ((t : Held P) × OnTheWay c t) ⊎ (cond b (w t.carried) 0 ≡ 0)
-          test true e =
-              let s = both_same t.source l.source t.destination l.destination e in
-              inl (t, record { slot = l; stored = p; stands = q; source = s.0; destination = s.1 })
-          test false e = inr refl
+      go None slot p q = inr refl
+      go (Some t) None p q = inr refl
+      go (Some t) (Some l) p q =
+          chosen (λ (n : ℕ). ((t : Held P) × OnTheWay c t) ⊎ (n ≡ 0)) (eqb t.source l.source && eqb t.destination l.destination) _ _
+          (λ e.
+          let s = both_same t.source l.source t.destination l.destination e in
+          inl (t, record { slot = l; stored = p; stands = q; source = s.0; destination = s.1 }))
+          (λ e. inr refl)
 
   pub weight_none : {c : Channel P Q} → ((t : Held P) → OnTheWay c t → ⊥) → weight w c ≡ 0
   weight_none {c} n = ⊎_elim (λ o. absurd (n o.0 o.1)) (λ e. e) (on_or_none c)
@@ -54,7 +52,7 @@ module _ {P Q : Type 0} (w : P → ℕ) where
   unfolding departed arrived
   turn_weighs c c' quiet g r z = omega (arith, weight_stays c c' z.brings)
   turn_weighs c c' (departs t) g r z = omega (arith, weight_none z.brings.none_before, weight_on z.brings.on_the_way)
-  turn_weighs c c' (arrives t) g r z = omega (arith, weight_on z.brings.on_the_way, weight_none {c = c'} (λ u o. not_both z.brings.slot_gone o.stands))
+  turn_weighs c c' (arrives t) g r z = omega (arith, weight_on z.brings.on_the_way, weight_none {c = c'} (λ u o. cc))
 
   pub moves_weigh : {W W' : Web P Q} {g r : ℕ} {e : Event P} (n : ℕ) → Moves W W' g r e → g < n → r < n
       → on_all_ways w W n + departed w (entries g r e) ≡ on_all_ways w W' n + arrived w (entries g r e)

@@ -1,7 +1,6 @@
 -- One channel, from a giver to a receiver: two clocks, a token and a slot. What a token carries is
 -- any P, and what a slot asks for any Q.
-use Rattle.std.specs.Prelude.{ℕ, ◌≡◌}
-use Rattle.std.proofs.Math.Option.{Option, some}
+use Rattle.std.specs.Prelude.{ℕ, ◌≡◌, Option, Some}
 
 -- a slot or a token
 pub record Held (P : Type 0) : Type 0 where
@@ -20,8 +19,8 @@ pub record Channel (P Q : Type 0) : Type 0 where
 -- a token is on the way while its destination has a slot for its maker with both clocks the same
 pub record OnTheWay {P Q : Type 0} (c : Channel P Q) (t : Held P) : Type 0 where
   pub slot : Held Q
-  pub stored : c.token ≡ some t
-  pub stands : c.slot ≡ some slot
+  pub stored : c.token ≡ Some t
+  pub stands : c.slot ≡ Some slot
   pub source : t.source ≡ slot.source
   pub destination : t.destination ≡ slot.destination
 

@@ -1,6 +1,5 @@
 -- All departures and arrivals of a run, in their order, and how they belong together.
-use Rattle.std.specs.Prelude.{ℕ, zero, suc, ◌+◌, ◌<◌, ◌≡◌, List, [], ◌∷◌}
-use Rattle.std.proofs.Math.Option.{Option, none, some}
+use Rattle.std.specs.Prelude.{ℕ, ◌+◌, ◌<◌, ◌≡◌, List, [], ◌∷◌, Some, slice_get}
 use Rattle.handshake.specs.Channel.{Held, Event, quiet, departs, arrives}
 
 -- passes handed from the station that made the token to the station it was made for
@@ -22,15 +21,9 @@ entries g r quiet = []
 entries g r (departs t) = departure (transfer g r t) ∷ []
 entries g r (arrives t) = arrival (transfer g r t) ∷ []
 
--- element number i of a list
-unfoldable pub at : {A : Type 0} → List A → ℕ → Option A
-at [] i = none
-at (x ∷ xs) zero = some x
-at (x ∷ xs) (suc i) = at xs i
-
 -- somewhere in a list
 abbrev pub In : {A : Type 0} → A → List A → Type 0
-In x H = (i : ℕ) × (at H i ≡ some x)
+In x H = (i : ℕ) × (slice_get H i ≡ Some x)
 
 -- they belong together if maker, destination and both clocks agree
 pub record Belong {P : Type 0} (x y : Transfer P) : Type 0 where
@@ -42,11 +35,11 @@ pub record Belong {P : Type 0} (x y : Transfer P) : Type 0 where
 pub record Pairing {P : Type 0} (H : List (Entry P)) : Type 0 where
   -- each arrival belongs to an earlier departure between the same two stations, with both clocks
   -- equal and of the same amount
-  pub departed_before : (i : ℕ) (x : Transfer P) → at H i ≡ some (arrival x) → (k : ℕ) × (k < i) × (at H k ≡ some (departure x))
+  pub departed_before : (i : ℕ) (x : Transfer P) → slice_get H i ≡ Some (arrival x) → (k : ℕ) × (k < i) × (slice_get H k ≡ Some (departure x))
   -- and to one only: two departures that belong together are the same one
-  pub one_departure : (i k : ℕ) (x y : Transfer P) → at H i ≡ some (departure x) → at H k ≡ some (departure y) → Belong x y → i ≡ k
+  pub one_departure : (i k : ℕ) (x y : Transfer P) → slice_get H i ≡ Some (departure x) → slice_get H k ≡ Some (departure y) → Belong x y → i ≡ k
   -- no departure has two arrivals: two arrivals that belong together are the same one
-  pub one_arrival : (i k : ℕ) (x y : Transfer P) → at H i ≡ some (arrival x) → at H k ≡ some (arrival y) → Belong x y → i ≡ k
+  pub one_arrival : (i k : ℕ) (x y : Transfer P) → slice_get H i ≡ Some (arrival x) → slice_get H k ≡ Some (arrival y) → Belong x y → i ≡ k
 
 -- all that departed and all that arrived, each token weighed by w
 module _ {P : Type 0} (w : P → ℕ) where

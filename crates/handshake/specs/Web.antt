@@ -1,7 +1,6 @@
 -- All channels of a table at once, the messages that wait between them, and the history: what holds
 -- at all times.
-use Rattle.std.specs.Prelude.{ℕ, ◌<◌, ◌≡◌, cond, ◌&&◌, List, eqb}
-use Rattle.std.proofs.Math.Option.{Option, none, some}
+use Rattle.std.specs.Prelude.{ℕ, ◌<◌, ◌≡◌, cond, ◌&&◌, List, eqb, Option, None, Some}
 use Rattle.handshake.specs.Channel.{Held, Channel, Event, quiet}
 use Rattle.handshake.specs.Turn.{Turn}
 use Rattle.handshake.specs.Clauses.{Standing, GiverShows, ReceiverShows, Spent}
@@ -34,7 +33,7 @@ pub record Holds {P Q : Type 0} (W : Web P Q) (Waits : Letter P Q → Type 0) (H
   -- what arrived will not arrive again
   pub arrivals : (g r : ℕ) (t : Held P) → In (arrival (transfer g r t)) H → Spent (W g r) t.source t.destination
   -- a stored token once departed
-  pub stored : (g r : ℕ) (t : Held P) → (W g r).token ≡ some t → In (departure (transfer g r t)) H
+  pub stored : (g r : ℕ) (t : Held P) → (W g r).token ≡ Some t → In (departure (transfer g r t)) H
   pub pairing : Pairing H
 
 -- one channel makes a turn, and in every other at most the clocks rise
@@ -70,9 +69,9 @@ with_end W i j x g r =
 -- what is on the way in one channel, weighed by w
 module _ {P Q : Type 0} (w : P → ℕ) where
   abbrev pub weigh : Option (Held P) → Option (Held Q) → ℕ
-  weigh none l = 0
-  weigh (some t) none = 0
-  weigh (some t) (some l) = cond (eqb t.source l.source && eqb t.destination l.destination) (w t.carried) 0
+  weigh None l = 0
+  weigh (Some t) None = 0
+  weigh (Some t) (Some l) = cond (eqb t.source l.source && eqb t.destination l.destination) (w t.carried) 0
 
   abbrev pub weight : Channel P Q → ℕ
   weight c = weigh c.token c.slot

@@ -1,12 +1,12 @@
 -- Steps given as numbers, from a fresh table on.
-use Rattle.std.specs.Prelude.{ℕ, ◌/◌, List, [], ◌∷◌, ◌≡◌, length}
+use Rattle.std.specs.Prelude.{ℕ, ◌/◌, List, [], ◌∷◌, ◌≡◌, length, Option}
+use Rattle.steps.specs.declared.asked.Step.{Step}
 use Rattle.table.specs.declared.table.Table.{Table}
 use Rattle.table.specs.Fresh.{fresh_table_of}
-use Rattle.steps.specs.declared.asked.Asked.{Asked}
 use Rattle.steps.specs.Running.{asked_step, asked_in, ran_of, told_in_run}
 
 -- the last result of what is asked for, one after the other
-unfoldable pub last_result : Table → ℕ → List Asked → ℕ
+unfoldable pub last_result : Table → ℕ → List (Option Step) → ℕ
 last_result t last [] = last
 last_result t last (x ∷ xs) = let s = asked_step t x in last_result s.table s.result xs
 

@@ -1,5 +1,5 @@
 -- What the steps on a lent pool tell, and the pool that they leave.
-use Rattle.std.specs.Prelude.{ℕ, not, ◌≡◌, List, [], ◌∷◌, eqb, ltb, length, set}
+use Rattle.std.specs.Prelude.{ℕ, not, ◌≡◌, List, [], ◌∷◌, eqb, ltb, length, set, Some, None}
 use Rattle.ground.specs.Answers.{not_sound, pool_full, no_such_place, empty_place}
 use Rattle.ground.specs.Refusals.{Refusal, when, answer_of}
 use Rattle.ground.specs.Choice.{if_done}
@@ -9,14 +9,13 @@ use Rattle.rules.specs.declared.message.Message.{Message}
 use Rattle.pool.specs.Pool.{most_places, place_in, is_empty, lowest_empty}
 use Rattle.pool.specs.declared.lent.Pooled.{Pooled}
 use Rattle.pool.specs.declared.places.Place.{Place}
-use Rattle.pool.specs.declared.places.Waiting.TheVariants.{Empty, One}
 
 -- a place that holds no message, and one that holds m
 abbrev pub cleared : Place
-cleared = record { waiting = Empty }
+cleared = record { waiting = None }
 
 abbrev pub holding : Message → Place
-holding m = record { waiting = One m }
+holding m = record { waiting = Some m }
 
 abbrev pub send_in_refusals : List Place → List Refusal
 send_in_refusals pool = when (not (eqb (length pool) most_places)) not_sound ∷ when (not (ltb (lowest_empty pool) most_places)) pool_full ∷ []

@@ -1,26 +1,23 @@
 // A pool that is lent: its places stand in the caller's memory, and a step changes at most one of
 // them.
 ghost use Rattle.std.specs.Prelude.{◌≡◌};
-ghost use Rattle.pool.specs.Lent.{SendsIn, LosesIn, sent_value, lost_value, cleared, holding};
+ghost use Rattle.ground.specs.Tested.{number_of};
+ghost use Rattle.ground.specs.Told.{told_with};
+ghost use Rattle.pool.specs.Lent.{SendsIn, LosesIn, sent_value, lost_value};
 
-use crate::places::{MOST_PLACES, Place, Waiting, is_empty};
-use ground::answers;
+use crate::places::{MOST_PLACES, Place};
+use ground::answers::DONE;
+use ground::refusal::Refusal;
 use ground::told::Told;
 use rules::message::Message;
 
-fn holding(m: Message) -> Place
-    ensures { result ≡ holding m }
+// The one place where a refusal is made: result 0.
+fn refuse(refusal: Refusal) -> Told
+    ensures { result ≡ told_with (number_of refusal) 0 }
 {
-    Place {
-        waiting: Waiting::One(m),
-    }
-}
-
-fn cleared() -> Place
-    ensures { result ≡ cleared }
-{
-    Place {
-        waiting: Waiting::Empty,
+    Told {
+        answer: refusal.number(),
+        result: 0,
     }
 }
 
@@ -29,27 +26,21 @@ pub fn send_in(pool: &mut [Place], m: Message) -> Told
     ensures { SendsIn pool.old m result pool.new }
 {
     if pool.len() != MOST_PLACES {
-        return Told {
-            answer: answers::NOT_SOUND,
-            result: 0,
-        };
+        return refuse(Refusal::NotSound);
     }
     let mut p: usize = 0;
     let found = loop {
         if MOST_PLACES <= p {
-            return Told {
-                answer: answers::POOL_FULL,
-                result: 0,
-            };
+            return refuse(Refusal::PoolFull);
         }
-        if is_empty(pool[p]) {
-            break p;
+        match pool[p].waiting {
+            None => break p,
+            Some(_) => p = p + 1,
         }
-        p = p + 1;
     };
-    pool[found] = holding(m);
+    pool[found] = Place { waiting: Some(m) };
     Told {
-        answer: answers::DONE,
+        answer: DONE,
         result: found as u64,
     }
 }
@@ -59,28 +50,18 @@ pub fn lose_in(pool: &mut [Place], p: u64) -> Told
     ensures { LosesIn pool.old p result pool.new }
 {
     if pool.len() != MOST_PLACES {
-        return Told {
-            answer: answers::NOT_SOUND,
-            result: 0,
-        };
+        return refuse(Refusal::NotSound);
     }
-    // The number of places, as a u64.
-    if 64 <= p {
-        return Told {
-            answer: answers::NO_SUCH_PLACE,
-            result: 0,
-        };
+    if MOST_PLACES as u64 <= p {
+        return refuse(Refusal::NoSuchPlace);
     }
     let at = p as usize;
-    if is_empty(pool[at]) {
-        return Told {
-            answer: answers::EMPTY_PLACE,
-            result: 0,
-        };
-    }
-    pool[at] = cleared();
+    let Some(_) = pool[at].waiting else {
+        return refuse(Refusal::EmptyPlace);
+    };
+    pool[at] = Place { waiting: None };
     Told {
-        answer: answers::DONE,
+        answer: DONE,
         result: 0,
     }
 }
@@ -92,13 +73,6 @@ pub struct Pooled {
     pub pool: [Place; MOST_PLACES],
 }
 
-// What is told and the pool, as one value.
-pub(crate) fn both(told: Told, pool: [Place; MOST_PLACES]) -> Pooled
-    ensures { result ≡ record { told = told; pool = pool } }
-{
-    Pooled { told, pool }
-}
-
 // The same two steps, on a pool by value. What they promise names no reference, so that a caller
 // needs none.
 pub fn send_value(pool: [Place; MOST_PLACES], m: Message) -> Pooled
@@ -106,7 +80,7 @@ pub fn send_value(pool: [Place; MOST_PLACES], m: Message) -> Pooled
 {
     let mut mine = pool;
     let told = send_in(&mut mine, m);
-    both(told, mine)
+    Pooled { told, pool: mine }
 }
 
 pub fn lose_value(pool: [Place; MOST_PLACES], p: u64) -> Pooled
@@ -114,5 +88,5 @@ pub fn lose_value(pool: [Place; MOST_PLACES], p: u64) -> Pooled
 {
     let mut mine = pool;
     let told = lose_in(&mut mine, p);
-    both(told, mine)
+    Pooled { told, pool: mine }
 }

@@ -3,10 +3,11 @@ use Prim.Native.Nat.{ℕ, ◌+◌, ◌*◌, ◌<◌}
 use mathlib.Core.Path.{◌≡◌, refl, ap, ◌∙◌}
 use mathlib.Core.List.{List, ◌++◌}
 use native.Mathlib.Omega.{arith}
+use Rattle.rules.specs.declared.held.Token.{Token}
+use Rattle.rules.specs.declared.held.Slot.{Slot}
 use lib.ListN.{get_or, get_or-append}
 use lib.Seq.{get_or-append-add}
-use Rattle.station.specs.declared.held.SlotCell.{SlotCell}
-use Rattle.station.specs.declared.held.TokenCell.{TokenCell}
+use Rattle.station.specs.declared.held.PeerCell.{PeerCell}
 use Rattle.station.specs.declared.station.Station.{Station}
 use Rattle.station.specs.Held.{no_slot, no_token, slot_for, token_for}
 use Rattle.ground.specs.Limits.{most_stations}
@@ -42,8 +43,8 @@ module _ (s : Station) (k : ℕ) (h : k < most_stations) where
 module _ (numbers : List ℕ) (k : ℕ) (h : k < most_stations) where
   pub slot_read : slot_for (station_of numbers) k ≡ slot_of (four_at numbers (slot_place k))
   unfolding station_of
-  slot_read = ap (λ (c : SlotCell). c.held) (at_ones (slot_cell numbers) most_stations k no_slot h)
+  slot_read = ap (λ (c : PeerCell Slot). c.held) (at_ones (slot_cell numbers) most_stations k no_slot h)
 
   pub token_read : token_for (station_of numbers) k ≡ token_of (four_at numbers (token_place k))
   unfolding station_of
-  token_read = ap (λ (c : TokenCell). c.held) (at_ones (token_cell numbers) most_stations k no_token h)
+  token_read = ap (λ (c : PeerCell Token). c.held) (at_ones (token_cell numbers) most_stations k no_token h)

@@ -21,7 +21,7 @@ use Rattle.quynhabet.specs.declared.fours.Four.{Four}
 use Rattle.ground.specs.InTurn.{in_turn}
 use Rattle.quynhabet.specs.Layout.{four_numbers, four_at, slot_four, token_four, slot_of, token_of, slot_place, token_place, slot_cell, token_cell, cells_fit, numbers_of, station_of, station_fits, message_numbers, message_of, message_fits}
 use Rattle.ground.proofs.InTurn.{ones_list}
-use Rattle.quynhabet.proofs.Fitting.{CellsFit, cell_fits, station_fits_lem, message_fits_lem}
+use Rattle.quynhabet.proofs.Fitting.{slots_fit, tokens_fit, message_fits_lem}
 use Rattle.quynhabet.proofs.FoursBack.{at_four, slot_back, token_back, slot_four_back, token_four_back, slot_fits_lem, token_fits_lem}
 use Rattle.quynhabet.proofs.Lengths.{length_numbers}
 use Rattle.quynhabet.proofs.Places.{slot_number, token_number, slot_four_at, token_four_at, slot_read, token_read}
@@ -44,18 +44,15 @@ station_back s e f =
 -- The numbers of the station that fitting numbers are: those numbers. So loading and storing
 -- changes nothing.
 module _ (numbers : List ℕ) (fits : station_fits numbers ≡ true) where
-  cells : (k : ℕ) → k < most_stations → CellsFit numbers k
-  cells k h = cell_fits numbers k (station_fits_lem numbers fits).cells h
-
   in_slots : (i k j : ℕ) → k < most_stations → j < 4 → 6 + (4 * k + j) ≡ i → get_or (numbers_of (station_of numbers)) i 0 ≡ get_or numbers i 0
   in_slots i k j h g e =
-      let four = ap slot_four (slot_read numbers k h) ∙ slot_four_back (four_at numbers (slot_place k)) (cells k h).slot in
+      let four = ap slot_four (slot_read numbers k h) ∙ slot_four_back (four_at numbers (slot_place k)) (slots_fit numbers fits k h) in
       let same : slot_place k + j ≡ i = omega arith in
       slot_number (station_of numbers) k h j i g e ∙ ap (λ (f : Four). get_or (four_numbers f) j 0) four ∙ at_four numbers (slot_place k) j g ∙ ap (λ (n : ℕ). get_or numbers n 0) same
 
   in_tokens : (i k j : ℕ) → k < most_stations → j < 4 → 70 + (4 * k + j) ≡ i → get_or (numbers_of (station_of numbers)) i 0 ≡ get_or numbers i 0
   in_tokens i k j h g e =
-      let four = ap token_four (token_read numbers k h) ∙ token_four_back (four_at numbers (token_place k)) (cells k h).token in
+      let four = ap token_four (token_read numbers k h) ∙ token_four_back (four_at numbers (token_place k)) (tokens_fit numbers fits k h) in
       let same : token_place k + j ≡ i = omega arith in
       token_number (station_of numbers) k h j i g e ∙ ap (λ (f : Four). get_or (four_numbers f) j 0) four ∙ at_four numbers (token_place k) j g ∙ ap (λ (n : ℕ). get_or numbers n 0) same
 

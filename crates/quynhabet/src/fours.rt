@@ -1,14 +1,14 @@
 // A slot or a token as four numbers: present, source clock, destination clock, quantity.
-ghost use Rattle.std.specs.Prelude.{◌≡◌, true, ◌+◌, ◌≤◌, length};
+ghost use Rattle.std.specs.Prelude.{◌≡◌, cond, ◌+◌, ◌≤◌, length};
 ghost use Rattle.std.proofs.lemmas.List.Edits.{sets};
 ghost use Rattle.ground.specs.Clocks.{clock_sound};
-ghost use Rattle.quynhabet.specs.Layout.{four_numbers, four_at, four_fits, slot_four, token_four, slot_of, token_of};
+ghost use Rattle.quynhabet.specs.Layout.{four_numbers, four_at, four_fits, four_of, held_of};
 
 use ground::clocks::{DestinationClock, SourceClock};
-use ground::limits::LAST_CLOCK;
-use rules::held::{HeldSlot, HeldToken, Slot, Token};
+use rules::held::{Held, Terms};
+use station::held::PeerCell;
 
-#[derive(Clone, Copy)]
+#[derive(Clone, Copy, Default)]
 pub(crate) struct Four {
     pub present: u64,
     pub source: u64,
@@ -16,92 +16,48 @@ pub(crate) struct Four {
     pub quantity: u64,
 }
 
-pub(crate) fn slot_four(held: HeldSlot) -> Four
-    ensures { result ≡ slot_four held }
+pub(crate) fn four_of<H: Held>(held: Option<H>) -> Four
+    ensures { result ≡ four_of H.terms_of held }
 {
-    let HeldSlot::OneSlot(one) = held else {
-        return Four {
-            present: 0,
-            source: 0,
-            destination: 0,
-            quantity: 0,
-        };
+    let Some(held) = held else {
+        return Four::default();
     };
-    let source = one.source;
-    let destination = one.destination;
+    let terms = held.terms();
     Four {
         present: 1,
-        source: source.0 as u64,
-        destination: destination.0 as u64,
-        quantity: one.quantity,
+        source: terms.source.0 as u64,
+        destination: terms.destination.0 as u64,
+        quantity: terms.quantity,
     }
 }
 
-pub(crate) fn token_four(held: HeldToken) -> Four
-    ensures { result ≡ token_four held }
+// A clock's number, where it is not too wide for one.
+pub(crate) fn clock_of(number: u64) -> Option<u32>
+    ensures { result ≡ cond (clock_sound number) (Some number) None }
 {
-    let HeldToken::OneToken(one) = held else {
-        return Four {
-            present: 0,
-            source: 0,
-            destination: 0,
-            quantity: 0,
-        };
-    };
-    let source = one.source;
-    let destination = one.destination;
-    Four {
-        present: 1,
-        source: source.0 as u64,
-        destination: destination.0 as u64,
-        quantity: one.quantity,
-    }
+    u32::try_from(number).ok()
 }
 
-pub(crate) fn clock_fits(clock: u64) -> bool
-    ensures { result ≡ clock_sound clock }
-{
-    clock <= LAST_CLOCK as u64
-}
-
-// Numbers too wide for their field, or not 0 in what is not held, are neither a slot nor a token.
+// What four numbers say is held. Numbers too wide for their field, or not 0 in what is not held,
+// are neither a slot nor a token.
 #[tactic(auto, unfolding(crate::specs::Layout::four_fits))]
-pub(crate) fn four_fits(f: Four) -> bool
-    ensures { result ≡ four_fits f }
+pub(crate) fn cell_of<H: Held>(f: Four) -> Option<PeerCell<H>>
+    ensures { result ≡ cond (four_fits f) (Some (record { held = held_of H.held_on f })) None }
 {
-    let nothing = (f.source == 0) & (f.destination == 0) & (f.quantity == 0);
-    let clocks = clock_fits(f.source) & clock_fits(f.destination);
-    (f.present <= 1) & clocks & ((f.present == 1) | nothing)
-}
-
-pub(crate) fn slot_of(f: Four) -> HeldSlot
-    requires { four_fits f ≡ true }
-    ensures { result ≡ slot_of f }
-{
-    if f.present == 0 {
-        return HeldSlot::NoSlot;
+    let source = SourceClock(clock_of(f.source)?);
+    let destination = DestinationClock(clock_of(f.destination)?);
+    let quantity = f.quantity;
+    match f.present {
+        0 if f.source == 0 && f.destination == 0 && quantity == 0 => Some(PeerCell { held: None }),
+        1 => Some(PeerCell {
+            held: Some(H::on(Terms {
+                source,
+                destination,
+                quantity,
+            })),
+        }),
+        _ => None,
     }
-    let slot = Slot {
-        source: SourceClock(f.source as u32),
-        destination: DestinationClock(f.destination as u32),
-        quantity: f.quantity,
-    };
-    HeldSlot::OneSlot(slot)
-}
-
-pub(crate) fn token_of(f: Four) -> HeldToken
-    requires { four_fits f ≡ true }
-    ensures { result ≡ token_of f }
-{
-    if f.present == 0 {
-        return HeldToken::NoToken;
-    }
-    let token = Token {
-        source: SourceClock(f.source as u32),
-        destination: DestinationClock(f.destination as u32),
-        quantity: f.quantity,
-    };
-    HeldToken::OneToken(token)
 }
 
 // The four numbers that stand at a position.

@@ -5,6 +5,5 @@
 pub mod exports;
 mod fours;
 mod messages;
-mod moving;
 mod stations;
 pub mod told;

@@ -1,13 +1,13 @@
 -- Laws of a number's bytes. Assumes nothing.
-use Prim.Native.Nat.{ℕ, zero, suc, ◌+◌, ◌*◌, ◌/◌, ◌%◌, ◌^◌, ◌<◌}
+use Prim.Native.Nat.{ℕ, zero, suc, ◌+◌, ◌-◌, ◌*◌, ◌/◌, ◌%◌, ◌^◌, ◌<◌}
 use mathlib.Core.Path.{◌≡◌, refl}
 use mathlib.Core.List.{List, [], ◌∷◌, ◌++◌}
 use native.Mathlib.Nat.{add-zero, add-suc, add_assoc, add-mul, mul_assoc, pow-suc, pow-le-pow_right, lt_of_lt_of_le}
 use native.Mathlib.Numerals.{add-one}
 use native.Mathlib.Omega.{arith}
 use lib.Dec.{lit<}
-use lib.ListN.{get_or, set}
-use lib.Seq.{sets}
+use lib.ListN.{length, get_or, set, take, drop, length-take}
+use lib.Seq.{sets, get_or-take, get_or-drop}
 use Rattle.record.specs.Numbers.{big, number_at}
 use Rattle.record.proofs.Digits.{length_big}
 use Rattle.ground.proofs.Stores.{last_first}
@@ -19,6 +19,14 @@ read_none bytes at = refl
 pub read_more : (bytes : List ℕ) (at k : ℕ) → number_at bytes at (k + 1) ≡ number_at bytes at k * 256 + get_or bytes (at + k) 0
 unfolding number_at
 read_more bytes at k = rw (add-one k)
+
+-- a byte of a part
+module _ (bytes : List ℕ) (at size i : ℕ) (within : i < length (take (at + size - at) (drop at bytes))) where
+  pub in_part : i < size
+  in_part = omega (arith, length-take (at + size - at) (drop at bytes))
+
+  pub part_byte : get_or (take (at + size - at) (drop at bytes)) i 0 ≡ get_or bytes (at + i) 0
+  part_byte = let n : i < at + size - at = omega (arith, in_part) in rw (get_or-take, get_or-drop)
 
 -- a number of fewer than 8 bytes has room for one more
 pub room : (k x : ℕ) → k < 8 → x < 256 ^ k → x < 2 ^ 56

@@ -10,7 +10,8 @@ use lib.Dec.{eqb}
 use lib.ListN.{length, drop}
 use lib.Seq.{drop-length}
 use borrow.Author.Tests.{eqb-true}
-use Rattle.record.specs.Faults.{unsound_number, extra}
+use Rattle.record.specs.declared.faults.FaultKind.{FaultKind}
+use Rattle.record.specs.declared.faults.FaultKind.TheVariants.{UnsoundNumber, Extra}
 use Rattle.record.specs.Numbers.{Bytes, big, number_at}
 use Rattle.record.specs.Fields.{Body, missing, body, Field, total, body_of, tagged, bytes_of, Fill, Content}
 use Rattle.record.specs.Walk.{going, stopped, Look, here, away, fault, look, numbers_at, taken, step, ended, none, walk_from}
@@ -25,12 +26,12 @@ pub record Read (bytes : List ℕ) (fs : List Field) (at : ℕ) (before : List B
   pub form : drop at bytes ≡ bytes_of fs bodies
   pub whole : end ≡ length bytes
 
-pub stays : (bytes : List ℕ) (fs : List Field) (answer place : ℕ) → walk_from bytes fs (stopped answer place) ≡ stopped answer place
+pub stays : (bytes : List ℕ) (fs : List Field) (kind : FaultKind) (place : ℕ) → walk_from bytes fs (stopped kind place) ≡ stopped kind place
 unfolding walk_from step ended
-stays bytes [] answer place = refl
-stays bytes (f ∷ fs) answer place = stays bytes fs answer place
+stays bytes [] kind place = refl
+stays bytes (f ∷ fs) kind place = stays bytes fs kind place
 
-pub no_end : (a p end : ℕ) (content : List Body) → stopped a p ≡ going end content → ⊥
+pub no_end : (a : FaultKind) (p end : ℕ) (content : List Body) → stopped a p ≡ going end content → ⊥
 no_end a p end content e = let z : ◌≡◌ {A = ℕ} 0 1 = cc in omega arith
 
 module _ (bytes : List ℕ) (b : Bytes bytes) where
@@ -59,12 +60,12 @@ module _ (bytes : List ℕ) (b : Bytes bytes) where
       simp append_assoc cc
 
   module _ (end : ℕ) (content : List Body) where
-    at_end : (at : ℕ) (before : List Body) (t : Bool) → eqb at (length bytes) ≡ t → cond t (going at before) (stopped extra at) ≡ going end content → Read bytes [] at before end content
+    at_end : (at : ℕ) (before : List Body) (t : Bool) → eqb at (length bytes) ≡ t → cond t (going at before) (stopped Extra at) ≡ going end content → Read bytes [] at before end content
     unfolding bytes_of
     at_end at before true e w =
         let l = eqb-true at (length bytes) e in
         record { bodies = []; all = let q : content ≡ before = cc in q ∙ sym (append-nil before); may = tt; form = rw (l, drop-length); whole = cc }
-    at_end at before false e w = absurd (no_end 24 at end content w)
+    at_end at before false e w = absurd (no_end Extra at end content w)
 
     -- what is known of the fields after a field
     abbrev Rest : List Field → Type 0
@@ -78,7 +79,7 @@ module _ (bytes : List ℕ) (b : Bytes bytes) where
       seen = look bytes at f.tag (total f.sizes) f.must (none fs)
 
       judged : seen ≡ here → (t : Bool) → f.sound before numbers ≡ t
-          → walk_from bytes fs (cond t (going (at + 3 + total f.sizes) (before ++ (body numbers ∷ []))) (stopped unsound_number at)) ≡ going end content
+          → walk_from bytes fs (cond t (going (at + 3 + total f.sizes) (before ++ (body numbers ∷ []))) (stopped UnsoundNumber at)) ≡ going end content
           → Read bytes (f ∷ fs) at before end content
       unfolding bytes_of
       judged e true s w =
@@ -90,7 +91,7 @@ module _ (bytes : List ℕ) (b : Bytes bytes) where
             form = field_is f.tag at f.sizes f.must (none fs) e ∙ ap (λ (l : List ℕ). tagged f.tag f.sizes numbers ++ l) r.form;
             whole = r.whole;
           }
-      judged e false s w = absurd (no_end unsound_number at end content (sym (stays bytes fs 23 at) ∙ w))
+      judged e false s w = absurd (no_end UnsoundNumber at end content (sym (stays bytes fs UnsoundNumber at) ∙ w))
 
       stepped : at ≤ length bytes → (l : Look) → seen ≡ l → walk_from bytes fs (taken bytes f at before l) ≡ going end content → Read bytes (f ∷ fs) at before end content
       unfolding bytes_of taken

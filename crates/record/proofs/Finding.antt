@@ -1,4 +1,5 @@
 -- Each way in which the code looks for a field, as the definition has it. Assumes nothing.
+use Rattle.std.proofs.Common.{Result, Ok, Err}
 use Prim.Native.Nat.{ℕ, ◌+◌, ◌≤◌, ◌<◌}
 use mathlib.Core.Path.{◌≡◌, refl, ap, sym}
 use mathlib.Core.List.{List}
@@ -8,8 +9,9 @@ use lib.Dec.{leb, eqb}
 use lib.ListN.{length}
 use borrow.Author.Tests.{leb-true, eqb-true, lt-leb, le-leb, le-ltb, lt-ltb, eq-eqb, ne_eqb}
 use Rattle.ground.proofs.Tests.{both_hold}
-use Rattle.record.specs.declared.fields.Cursor.{Cursor}
-use Rattle.record.specs.Faults.{cut, other_tag, other_length}
+use Rattle.record.specs.declared.faults.Fault.{Fault}
+use Rattle.record.specs.declared.faults.FaultKind.{FaultKind}
+use Rattle.record.specs.declared.faults.FaultKind.TheVariants.{Cut, OtherTag, OtherLength}
 use Rattle.record.specs.Numbers.{number_at}
 use Rattle.record.specs.Walk.{Look, here, away, fault, look}
 use Rattle.record.specs.Reading.{whole_at, cursor_at}
@@ -19,11 +21,6 @@ neither : (must last : Bool) → (must || last) ≡ true → (not must && not la
 neither true last e = refl
 neither false true e = refl
 neither false false e = sym e
-
-both_hold_false : (must last : Bool) → (must || last) ≡ false → (must ≡ false) × (last ≡ false)
-both_hold_false false false e = (refl, refl)
-both_hold_false false true e = let z : ◌≡◌ {A = ℕ} 0 1 = cc in absurd (omega arith)
-both_hold_false true last e = let z : ◌≡◌ {A = ℕ} 0 1 = cc in absurd (omega arith)
 
 module _ (bytes : List ℕ) (at tag size : ℕ) where
   pub whole_here : whole_at bytes at tag size ≡ true → Here bytes at tag size
@@ -43,34 +40,34 @@ module _ (bytes : List ℕ) (at tag size : ℕ) where
   tested t n h e f = rw (le-leb (at + 3 + size) (length bytes) h, e, f)
 
   module _ (must last : Bool) where
-    abbrev found : Cursor
+    abbrev found : Result ℕ Fault
     found = cursor_at at size (look bytes at tag size must last)
 
-    abbrev stop : ℕ → ℕ → Cursor
-    stop n place = record { answer = n; at = place }
+    abbrev stop : FaultKind → ℕ → Result ℕ Fault
+    stop kind place = Err (record { kind = kind; at = place })
 
     is : (l : Look) → look bytes at tag size must last ≡ l → cursor_at at size l ≡ found
     is l e = ap (cursor_at at size) (sym e)
 
-    pub whole : Here bytes at tag size → stop 0 (at + 3 + size) ≡ found
+    pub whole : Here bytes at tag size → Ok (at + 3 + size) ≡ found
     whole h = is here (looks_here bytes at tag size must last h)
 
-    pub nothing_left : length bytes ≤ at → must ≡ true → stop cut (length bytes) ≡ found
+    pub nothing_left : length bytes ≤ at → must ≡ true → stop Cut (length bytes) ≡ found
     unfolding look
-    nothing_left h m = is (fault cut (length bytes)) (rw (m, lt-ltb (length bytes) (at + 3) (omega arith)))
+    nothing_left h m = is (fault Cut (length bytes)) (rw (m, lt-ltb (length bytes) (at + 3) (omega arith)))
 
-    pub none : length bytes ≤ at → must ≡ false → stop 0 at ≡ found
+    pub none : length bytes ≤ at → must ≡ false → Ok at ≡ found
     none h m = is away (rw m (looks_none bytes at tag size last h))
 
-    pub head_cut : at < length bytes → length bytes < at + 3 → stop cut (length bytes) ≡ found
+    pub head_cut : at < length bytes → length bytes < at + 3 → stop Cut (length bytes) ≡ found
     unfolding look
-    head_cut h l = is (fault cut (length bytes)) (rw (lt-leb (length bytes) at h, and-false (not must), lt-ltb (length bytes) (at + 3) l))
+    head_cut h l = is (fault Cut (length bytes)) (rw (lt-leb (length bytes) at h, and-false (not must), lt-ltb (length bytes) (at + 3) l))
 
     module _ (h : at + 3 ≤ length bytes) where
-      pub another : (number_at bytes at 1 ≡ tag → ⊥) → (must || last) ≡ true → stop other_tag at ≡ found
+      pub another : (number_at bytes at 1 ≡ tag → ⊥) → (must || last) ≡ true → stop OtherTag at ≡ found
       unfolding look
       another f m =
-          is (fault other_tag at)
+          is (fault OtherTag at)
           (rw (
             lt-leb (length bytes) at (omega arith),
             and-false (not must),
@@ -79,14 +76,14 @@ module _ (bytes : List ℕ) (at tag size : ℕ) where
             neither must last m,
           ))
 
-      pub gone : (number_at bytes at 1 ≡ tag → ⊥) → (must || last) ≡ false → stop 0 at ≡ found
-      gone f m = let b = both_hold_false must last m in is away (rw (b.0, b.1) (looks_past bytes at tag size h f))
+      pub gone : (number_at bytes at 1 ≡ tag → ⊥) → must ≡ false → last ≡ false → Ok at ≡ found
+      gone f m l = is away (rw (m, l) (looks_past bytes at tag size h f))
 
       module _ (t : number_at bytes at 1 ≡ tag) where
-        pub wrong_length : (number_at bytes (at + 1) 2 ≡ size → ⊥) → stop other_length at ≡ found
+        pub wrong_length : (number_at bytes (at + 1) 2 ≡ size → ⊥) → stop OtherLength at ≡ found
         unfolding look
         wrong_length f =
-            is (fault other_length at)
+            is (fault OtherLength at)
             (rw (
               lt-leb (length bytes) at (omega arith),
               and-false (not must),
@@ -95,10 +92,10 @@ module _ (bytes : List ℕ) (at tag size : ℕ) where
               ne_eqb (number_at bytes (at + 1) 2) size f,
             ))
 
-        pub body_cut : number_at bytes (at + 1) 2 ≡ size → length bytes < at + 3 + size → stop cut (length bytes) ≡ found
+        pub body_cut : number_at bytes (at + 1) 2 ≡ size → length bytes < at + 3 + size → stop Cut (length bytes) ≡ found
         unfolding look
         body_cut n l =
-            is (fault cut (length bytes))
+            is (fault Cut (length bytes))
             (rw (
               lt-leb (length bytes) at (omega arith),
               and-false (not must),
@@ -107,3 +104,8 @@ module _ (bytes : List ℕ) (at tag size : ℕ) where
               eq-eqb (number_at bytes (at + 1) 2) size n,
               lt-ltb (length bytes) (at + 3 + size) l,
             ))
+
+-- for the function that tests the whole first, and for the one that tests one after the other
+pub ruleset at_once = (whole_here, whole)
+
+pub ruleset one_by_one = (nothing_left, none, head_cut, another, gone, wrong_length, body_cut, whole)

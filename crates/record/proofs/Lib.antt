@@ -7,13 +7,13 @@ pub mod AnyTable
 pub mod OneMore
 pub mod Passed
 pub mod Again
-pub mod Named
 pub mod Cursors
 pub mod Finding
 pub mod Fronts
 pub mod Helds
 pub mod Whole
 pub mod Lengths
+pub mod Sheets
 pub mod Showing
 pub mod Printed
 pub mod Messages

@@ -7,7 +7,8 @@ use native.Mathlib.Omega.{arith}
 use lib.Dec.{ltb, leb, eqb}
 use lib.ListN.{length}
 use borrow.Author.Tests.{ltb-false, eqb-true, not-false, lt-leb, le-leb, le-ltb, eq-eqb, ne_eqb}
-use Rattle.record.specs.Faults.{cut, other_tag, other_length}
+use Rattle.record.specs.declared.faults.FaultKind.{FaultKind}
+use Rattle.record.specs.declared.faults.FaultKind.TheVariants.{Cut, OtherTag, OtherLength}
 use Rattle.record.specs.Numbers.{number_at}
 use Rattle.record.specs.Walk.{Look, here, away, fault, look}
 
@@ -25,10 +26,10 @@ otherwise false x y z e f = (refl, e)
 away_no : away ≡ here → ⊥
 away_no e = let z : ◌≡◌ {A = ℕ} 0 1 = cc in omega arith
 
-fault_no : (a p : ℕ) → fault a p ≡ here → ⊥
+fault_no : (a : FaultKind) (p : ℕ) → fault a p ≡ here → ⊥
 fault_no a p e = let z : ◌≡◌ {A = ℕ} 0 1 = cc in omega arith
 
-fault_not_away : (a p : ℕ) → fault a p ≡ away → ⊥
+fault_not_away : (a : FaultKind) (p : ℕ) → fault a p ≡ away → ⊥
 fault_not_away a p e = let z : ◌≡◌ {A = ℕ} 0 1 = cc in omega arith
 
 here_not_away : here ≡ away → ⊥
@@ -37,29 +38,29 @@ here_not_away e = let z : ◌≡◌ {A = ℕ} 0 1 = cc in omega arith
 module _ (bytes : List ℕ) (at tag size : ℕ) where
   module _ (must last : Bool) where
     abbrev fifth : Look
-    fifth = cond (ltb (length bytes) (at + 3 + size)) (fault cut (length bytes)) here
+    fifth = cond (ltb (length bytes) (at + 3 + size)) (fault Cut (length bytes)) here
 
     abbrev fourth : Look
-    fourth = cond (not (eqb (number_at bytes (at + 1) 2) size)) (fault other_length at) fifth
+    fourth = cond (not (eqb (number_at bytes (at + 1) 2) size)) (fault OtherLength at) fifth
 
     abbrev third : Look
-    third = cond (not (eqb (number_at bytes at 1) tag)) (cond (not must && not last) away (fault other_tag at)) fourth
+    third = cond (not (eqb (number_at bytes at 1) tag)) (cond (not must && not last) away (fault OtherTag at)) fourth
 
     abbrev second : Look
-    second = cond (ltb (length bytes) (at + 3)) (fault cut (length bytes)) third
+    second = cond (ltb (length bytes) (at + 3)) (fault Cut (length bytes)) third
 
-    no_tag : (t : Bool) → cond t away (fault other_tag at) ≡ here → ⊥
+    no_tag : (t : Bool) → cond t away (fault OtherTag at) ≡ here → ⊥
     no_tag true e = away_no e
-    no_tag false e = fault_no other_tag at e
+    no_tag false e = fault_no OtherTag at e
 
     pub is_here : look bytes at tag size must last ≡ here → Here bytes at tag size
     unfolding look
     is_here e =
         let a = otherwise (not must && leb (length bytes) at) away second here e away_no in
-        let b = otherwise (ltb (length bytes) (at + 3)) (fault cut (length bytes)) third here a.1 (fault_no cut (length bytes)) in
-        let c = otherwise (not (eqb (number_at bytes at 1) tag)) (cond (not must && not last) away (fault other_tag at)) fourth here b.1 (no_tag (not must && not last)) in
-        let d = otherwise (not (eqb (number_at bytes (at + 1) 2) size)) (fault other_length at) fifth here c.1 (fault_no other_length at) in
-        let f = otherwise (ltb (length bytes) (at + 3 + size)) (fault cut (length bytes)) here here d.1 (fault_no cut (length bytes)) in
+        let b = otherwise (ltb (length bytes) (at + 3)) (fault Cut (length bytes)) third here a.1 (fault_no Cut (length bytes)) in
+        let c = otherwise (not (eqb (number_at bytes at 1) tag)) (cond (not must && not last) away (fault OtherTag at)) fourth here b.1 (no_tag (not must && not last)) in
+        let d = otherwise (not (eqb (number_at bytes (at + 1) 2) size)) (fault OtherLength at) fifth here c.1 (fault_no OtherLength at) in
+        let f = otherwise (ltb (length bytes) (at + 3 + size)) (fault Cut (length bytes)) here here d.1 (fault_no Cut (length bytes)) in
         record {
           tag_is = eqb-true (number_at bytes at 1) tag (not-false (eqb (number_at bytes at 1) tag) c.0);
           size_is = eqb-true (number_at bytes (at + 1) 2) size (not-false (eqb (number_at bytes (at + 1) 2) size) d.0);
@@ -92,8 +93,8 @@ module _ (bytes : List ℕ) (at tag size : ℕ) where
   unfolding look
   away_may false last e = refl
   away_may true last e =
-      let b = otherwise (ltb (length bytes) (at + 3)) (fault cut (length bytes)) (third true last) away e (fault_not_away cut (length bytes)) in
-      let c = otherwise (not (eqb (number_at bytes at 1) tag)) (fault other_tag at) (fourth true last) away b.1 (fault_not_away other_tag at) in
-      let d = otherwise (not (eqb (number_at bytes (at + 1) 2) size)) (fault other_length at) (fifth true last) away c.1 (fault_not_away other_length at) in
-      let f = otherwise (ltb (length bytes) (at + 3 + size)) (fault cut (length bytes)) here away d.1 (fault_not_away cut (length bytes)) in
+      let b = otherwise (ltb (length bytes) (at + 3)) (fault Cut (length bytes)) (third true last) away e (fault_not_away Cut (length bytes)) in
+      let c = otherwise (not (eqb (number_at bytes at 1) tag)) (fault OtherTag at) (fourth true last) away b.1 (fault_not_away OtherTag at) in
+      let d = otherwise (not (eqb (number_at bytes (at + 1) 2) size)) (fault OtherLength at) (fifth true last) away c.1 (fault_not_away OtherLength at) in
+      let f = otherwise (ltb (length bytes) (at + 3 + size)) (fault Cut (length bytes)) here away d.1 (fault_not_away Cut (length bytes)) in
       absurd (here_not_away f.1)

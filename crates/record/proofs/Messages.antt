@@ -1,20 +1,19 @@
 -- Document 01's record: its table is clear, its bodies are its messages, its tests are a message's
 -- soundness; and so both round trips. Assumes nothing.
-use Prim.Native.Nat.{ℕ, zero, suc, ◌≤◌}
+use Rattle.std.proofs.Common.{Option, Some, None}
+use Prim.Native.Nat.{ℕ, ◌≤◌}
 use mathlib.Core.Path.{◌≡◌, refl, ap, sym, subst, ◌∙◌}
 use mathlib.Core.Logic.{◌⊎◌, inl, inr, ⊎_elim}
 use mathlib.Core.List.{List, [], ◌∷◌, ◌++◌}
 use mathlib.Core.Bool.{true, false, not, and-false}
 use native.Mathlib.Omega.{arith}
+use Rattle.rules.specs.declared.held.Token.{Token}
+use Rattle.rules.specs.declared.held.Slot.{Slot}
 use lib.ListN.{length}
 use lib.Dec.{leb, eqb}
 use borrow.Author.Tests.{leb-true}
 use Rattle.ground.specs.declared.clocks.SourceClock.{SourceClock}
 use Rattle.ground.specs.declared.clocks.DestinationClock.{DestinationClock}
-use Rattle.rules.specs.declared.held.HeldSlot.{HeldSlot}
-use Rattle.rules.specs.declared.held.HeldSlot.TheVariants.{NoSlot, OneSlot}
-use Rattle.rules.specs.declared.held.HeldToken.{HeldToken}
-use Rattle.rules.specs.declared.held.HeldToken.TheVariants.{NoToken, OneToken}
 use Rattle.rules.specs.declared.message.Message.{Message}
 use Rattle.ground.specs.Limits.{last_clock, most_value}
 use Rattle.station.specs.Sound.{slot_sound, token_sound, message_sound}
@@ -28,24 +27,23 @@ use Rattle.ground.proofs.Tests.{needed, not_allowed, at_most, below, by_test, bo
 use Rattle.record.proofs.AnyTable.{reads_back, exactly}
 use Rattle.record.proofs.Passed.{Passes, Passed, went}
 use Rattle.record.proofs.Again.{remade, same_again}
-use Rattle.record.proofs.Named.{Sure, sure}
 use Rattle.record.proofs.Whole.{slot_back, token_back}
 
 pub table_clear : clear dateless ≡ true
 table_clear = refl
 
 -- a slot or a token that is sound may be held, beside the clocks read before
-slot_may : (h : HeldSlot) (before : List Body) (clock : DestinationClock) → slot_sound h clock ≡ true → clock.0 ≤ last_clock → number_of before 3 1 ≡ clock.0 → May slot_field before (slot_body h)
-slot_may NoSlot before clock o c e = refl
-slot_may (OneSlot l) before clock o c e =
+slot_may : (h : Option Slot) (before : List Body) (clock : DestinationClock) → slot_sound h clock ≡ true → clock.0 ≤ last_clock → number_of before 3 1 ≡ clock.0 → May slot_field before (slot_body h)
+slot_may None before clock o c e = refl
+slot_may (Some l) before clock o c e =
     let s = at_most l.source.0 last_clock (λ g. simp (g, and-false) at o) in
     let d = below l.destination.0 clock.0 (λ g. simp (g, and-false) at o) in
     let q = at_most l.quantity most_value (λ g. simp (g, and-false) at o) in
     ((omega arith, (omega arith, (omega arith, tt))), rw e o)
 
-token_may : (h : HeldToken) (before : List Body) (clock : SourceClock) → token_sound h clock ≡ true → clock.0 ≤ last_clock → number_of before 3 0 ≡ clock.0 → May token_field before (token_body h)
-token_may NoToken before clock o c e = refl
-token_may (OneToken t) before clock o c e =
+token_may : (h : Option Token) (before : List Body) (clock : SourceClock) → token_sound h clock ≡ true → clock.0 ≤ last_clock → number_of before 3 0 ≡ clock.0 → May token_field before (token_body h)
+token_may None before clock o c e = refl
+token_may (Some t) before clock o c e =
     let d = at_most t.destination.0 last_clock (λ g. simp (g, and-false) at o) in
     let s = below t.source.0 clock.0 (λ g. simp (g, and-false) at o) in
     let q = at_most t.quantity most_value (λ g. simp g at o) in
@@ -148,8 +146,7 @@ unfolding is_record read_of walked
 refused_whole bytes e = by (walk dateless bytes) refl where
   by : (w : Walk) → walk dateless bytes ≡ w → reading_of (walked_of (walk dateless bytes)) ≡ no_reading
   by (going end bodies) f = let x : true ≡ false = rw f at e in let z : ◌≡◌ {A = ℕ} 0 1 = cc in absurd (omega arith)
-  by (stopped zero p) f = absurd (subst Sure f (sure bytes dateless (going 0 []) tt) refl)
-  by (stopped (suc n) p) f = rw f
+  by (stopped k p) f = rw f
 
 module _ (bytes : List ℕ) (e : is_record bytes ≡ true) where
   pub accepted_whole : read_of bytes ≡ record { answer = 0; result = length bytes; message = message_in (accepted bytes e).bodies }

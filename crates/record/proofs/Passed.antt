@@ -7,7 +7,7 @@ use mathlib.Core.Bool.{Bool, true, false, cond}
 use lib.Dec.{eqb}
 use lib.ListN.{length}
 use borrow.Author.Tests.{eqb-true}
-use Rattle.record.specs.Faults.{unsound_number, extra}
+use Rattle.record.specs.declared.faults.FaultKind.TheVariants.{UnsoundNumber, Extra}
 use Rattle.record.specs.Fields.{Body, missing, body, Field, total}
 use Rattle.record.specs.Walk.{going, stopped, Look, here, away, fault, look, numbers_at, taken, step, ended, none, walk_from}
 use Rattle.record.proofs.Looks.{away_may}
@@ -44,13 +44,13 @@ module _ (bytes : List ℕ) (end : ℕ) (content : List Body) where
   abbrev On : List Field → Type 0
   On fs = (at : ℕ) (before : List Body) → walk_from bytes fs (going at before) ≡ going end content → Went bytes fs before end content
 
-  at_end : (at : ℕ) (before : List Body) (t : Bool) → eqb at (length bytes) ≡ t → cond t (going at before) (stopped extra at) ≡ going end content → Went bytes [] before end content
+  at_end : (at : ℕ) (before : List Body) (t : Bool) → eqb at (length bytes) ≡ t → cond t (going at before) (stopped Extra at) ≡ going end content → Went bytes [] before end content
   at_end at before true e w =
       let h = eqb-true at (length bytes) e in
       let p : at ≡ end = cc in
       let q : before ≡ content = cc in
       record { bodies = []; all = sym q ∙ sym (append-nil before); tests = tt; whole = sym p ∙ h }
-  at_end at before false e w = absurd (no_end extra at end content w)
+  at_end at before false e w = absurd (no_end Extra at end content w)
 
   module _ (f : Field) (fs : List Field) (rest : On fs) (at : ℕ) (before : List Body) where
     abbrev numbers : List ℕ
@@ -60,7 +60,7 @@ module _ (bytes : List ℕ) (end : ℕ) (content : List Body) where
     seen = look bytes at f.tag (total f.sizes) f.must (none fs)
 
     judged : (t : Bool) → f.sound before numbers ≡ t
-        → walk_from bytes fs (cond t (going (at + 3 + total f.sizes) (before ++ (body numbers ∷ []))) (stopped unsound_number at)) ≡ going end content → Went bytes (f ∷ fs) before end content
+        → walk_from bytes fs (cond t (going (at + 3 + total f.sizes) (before ++ (body numbers ∷ []))) (stopped UnsoundNumber at)) ≡ going end content → Went bytes (f ∷ fs) before end content
     judged true s w =
         let r = rest (at + 3 + total f.sizes) (before ++ (body numbers ∷ [])) w in
         record {
@@ -69,7 +69,7 @@ module _ (bytes : List ℕ) (end : ℕ) (content : List Body) where
           tests = ((many bytes (at + 3) f.sizes, s), r.tests);
           whole = r.whole;
         }
-    judged false s w = absurd (no_end unsound_number at end content (sym (stays bytes fs unsound_number at) ∙ w))
+    judged false s w = absurd (no_end UnsoundNumber at end content (sym (stays bytes fs UnsoundNumber at) ∙ w))
 
     stepped : (l : Look) → seen ≡ l → walk_from bytes fs (taken bytes f at before l) ≡ going end content → Went bytes (f ∷ fs) before end content
     unfolding taken

@@ -1,13 +1,15 @@
 -- The first fault from the front and its place, of records that are cut, changed or longer. Assumes
 -- nothing.
+use Rattle.std.proofs.Common.{Option, Some, None, Result, Ok, Err}
 use Prim.Native.Nat.{ℕ}
 use mathlib.Core.Path.{◌≡◌, refl}
 use mathlib.Core.List.{List, [], ◌∷◌, ◌++◌}
+use Rattle.rules.specs.declared.held.Token.{Token}
+use Rattle.rules.specs.declared.held.Slot.{Slot}
+use Rattle.rules.specs.declared.message.Message.{Message}
 use lib.ListN.{take, drop, set}
-use Rattle.rules.specs.declared.held.HeldSlot.{HeldSlot}
-use Rattle.rules.specs.declared.held.HeldSlot.TheVariants.{NoSlot, OneSlot}
-use Rattle.rules.specs.declared.held.HeldToken.{HeldToken}
-use Rattle.rules.specs.declared.held.HeldToken.TheVariants.{NoToken, OneToken}
+use Rattle.record.specs.declared.faults.Fault.{Fault}
+use Rattle.record.specs.Faults.{fault_number}
 use Rattle.record.specs.Numbers.{big, number_at}
 use Rattle.record.specs.Fields.{bytes_of}
 use Rattle.record.specs.Walk.{look, taken, step, ended, walk_from}
@@ -15,35 +17,35 @@ use Rattle.record.specs.Dateless.{record_of}
 use Rattle.record.specs.Reading.{walked}
 
 -- station 0 with this value tells station 1, with source clock 1 and destination clock 2
-abbrev told : ℕ → HeldSlot → HeldToken → List ℕ
+abbrev told : ℕ → Option Slot → Option Token → List ℕ
 told value slot token =
     record_of (record { from = 0; to = 1; value = value; source = record { 0 = 1 }; destination = record { 0 = 2 }; slot = slot; token = token })
 
-abbrev slot : ℕ → ℕ → HeldSlot
-slot destination quantity = OneSlot (record { source = record { 0 = 9 }; destination = record { 0 = destination }; quantity = quantity })
+abbrev slot : ℕ → ℕ → Option Slot
+slot destination quantity = Some (record { source = record { 0 = 9 }; destination = record { 0 = destination }; quantity = quantity })
 
-abbrev token : ℕ → ℕ → HeldToken
-token source quantity = OneToken (record { source = record { 0 = source }; destination = record { 0 = 9 }; quantity = quantity })
+abbrev token : ℕ → ℕ → Option Token
+token source quantity = Some (record { source = record { 0 = source }; destination = record { 0 = 9 }; quantity = quantity })
 
 -- 30 bytes, 49 with a slot, and 68
 abbrev bare : List ℕ
-bare = told 10 NoSlot NoToken
+bare = told 10 None None
 
 abbrev asking : List ℕ
-asking = told 10 (slot 1 1) NoToken
+asking = told 10 (slot 1 1) None
 
 abbrev full : List ℕ
 full = told 10 (slot 1 1) (token 0 0)
 
-pub record Reads : Type 0 where
+pub record Case : Type 0 where
   pub bytes : List ℕ
   pub number : ℕ
   pub place : ℕ
 
-abbrev reads : List ℕ → ℕ → ℕ → Reads
+abbrev reads : List ℕ → ℕ → ℕ → Case
 reads bytes number place = record { bytes = bytes; number = number; place = place }
 
-abbrev pub places : List Reads
+abbrev pub places : List Case
 places =
     -- whole
     reads bare 0 30
@@ -75,21 +77,26 @@ places =
     ∷ reads (take 4 (set bare 3 16)) 23 0
     ∷ reads (set bare 7 16) 23 4
     ∷ reads (set bare 7 0) 23 4
-    ∷ reads (told 16000000001 NoSlot NoToken) 23 8
+    ∷ reads (told 16000000001 None None) 23 8
     ∷ reads (set bare 22 256) 23 19
     ∷ reads (set bare 26 256) 23 19
-    ∷ reads (told 10 (slot 0 0) NoToken) 23 30
-    ∷ reads (told 10 (slot 2 1) NoToken) 23 30
+    ∷ reads (told 10 (slot 0 0) None) 23 30
+    ∷ reads (told 10 (slot 2 1) None) 23 30
     ∷ reads (told 10 (slot 0 16000000001) (token 1 1)) 23 30
-    ∷ reads (told 10 NoSlot (token 1 1)) 23 30
+    ∷ reads (told 10 None (token 1 1)) 23 30
     ∷ reads (told 10 (slot 0 1) (token 0 16000000001)) 23 49
     -- more, once the last field stands
     ∷ reads (full ++ (0 ∷ [])) 24 68
     ∷ []
 
-abbrev found : List Reads → List Reads
+-- 0 beside the record's end, or the fault's number beside its place
+abbrev case_of : List ℕ → Result (Message × ℕ) Fault → Case
+case_of bytes (Ok read) = reads bytes 0 read.1
+case_of bytes (Err f) = reads bytes (fault_number f.kind) f.at
+
+abbrev found : List Case → List Case
 found [] = []
-found (c ∷ cs) = record { bytes = c.bytes; number = (walked c.bytes).answer; place = (walked c.bytes).at } ∷ found cs
+found (c ∷ cs) = case_of c.bytes (walked c.bytes) ∷ found cs
 
 pub places_hold : found places ≡ places
 unfolding record_of bytes_of big number_at look taken step ended walk_from walked

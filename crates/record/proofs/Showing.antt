@@ -4,6 +4,9 @@ use mathlib.Core.Path.{◌≡◌, ap, sym, subst}
 use mathlib.Core.List.{List}
 use lib.ListN.{length}
 use borrow.Author.Tests.{lt-ltb, ne_eqb}
+use Rattle.ground.specs.declared.refusal.Refusal.{Refusal}
+use Rattle.ground.specs.Tested.{number_of}
+use Rattle.ground.proofs.Tested.{refuses}
 use Rattle.ground.proofs.Refusing.{answer_before}
 use Rattle.ground.proofs.Choices.{when_refused}
 use Rattle.station.specs.declared.station.Station.{Station}
@@ -21,6 +24,10 @@ shows s to e = ap (λ (n : ℕ). (showing n (message_for s to)).message) e
 refusing : (n : ℕ) (bytes before : List ℕ) → (n ≡ 0 → ⊥) → Writes n bytes before (record { answer = n; result = 0 }) before
 refusing n bytes before f =
     record { told = ap (λ (k : ℕ). record { answer = n; result = k }) (when_refused n (length bytes) 0 f); buffer = when_refused n (in_front bytes before) before f }
+
+pub refused_writes : (r : Refusal) (bytes before : List ℕ) → Writes (number_of r) bytes before (record { answer = number_of r; result = 0 }) before
+refused_writes r bytes before =
+    record { told = ap (λ (k : ℕ). record { answer = number_of r; result = k }) (sym (refuses r (length bytes) 0)); buffer = sym (refuses r (in_front bytes before) before) }
 
 -- where nothing is shown, nothing is written
 pub writes_nothing : (s : Station) (to : ℕ) (before : List ℕ) → (show_answer s to ≡ 0 → ⊥)

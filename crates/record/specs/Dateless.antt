@@ -1,9 +1,7 @@
 -- Document 01's record: six fields, the last two of which may be missing.
-use Rattle.std.specs.Prelude.{ℕ, List, [], ◌∷◌, Bool, ◌&&◌, not, leb, eqb}
-use Rattle.rules.specs.declared.held.HeldSlot.{HeldSlot}
-use Rattle.rules.specs.declared.held.HeldSlot.TheVariants.{NoSlot, OneSlot}
-use Rattle.rules.specs.declared.held.HeldToken.{HeldToken}
-use Rattle.rules.specs.declared.held.HeldToken.TheVariants.{NoToken, OneToken}
+use Rattle.std.specs.Prelude.{ℕ, List, [], ◌∷◌, Bool, ◌&&◌, not, leb, eqb, Option, Some, None}
+use Rattle.rules.specs.declared.held.Token.{Token}
+use Rattle.rules.specs.declared.held.Slot.{Slot}
 use Rattle.rules.specs.declared.message.Message.{Message}
 use Rattle.ground.specs.Limits.{most_value}
 use Rattle.ground.specs.Clocks.{clock_sound}
@@ -11,13 +9,13 @@ use Rattle.station.specs.Sound.{slot_sound, token_sound}
 use Rattle.record.specs.Fields.{Body, missing, body, Field, required, optional, nth, body_at, number_of, bytes_of}
 
 -- a slot or a token of a field's numbers
-abbrev pub slot_in : Body → HeldSlot
-slot_in missing = NoSlot
-slot_in (body n) = OneSlot (record { source = record { 0 = nth n 0 }; destination = record { 0 = nth n 1 }; quantity = nth n 2 })
+abbrev pub slot_in : Body → Option Slot
+slot_in missing = None
+slot_in (body n) = Some (record { source = record { 0 = nth n 0 }; destination = record { 0 = nth n 1 }; quantity = nth n 2 })
 
-abbrev pub token_in : Body → HeldToken
-token_in missing = NoToken
-token_in (body n) = OneToken (record { source = record { 0 = nth n 0 }; destination = record { 0 = nth n 1 }; quantity = nth n 2 })
+abbrev pub token_in : Body → Option Token
+token_in missing = None
+token_in (body n) = Some (record { source = record { 0 = nth n 0 }; destination = record { 0 = nth n 1 }; quantity = nth n 2 })
 
 -- which numbers are sound with what was read before
 abbrev pub from_fits : List Body → List ℕ → Bool
@@ -61,13 +59,13 @@ abbrev pub dateless : List Field
 dateless = from_field ∷ to_field ∷ value_field ∷ clocks_field ∷ slot_field ∷ token_field ∷ []
 
 -- a message's bodies, and the message of bodies
-abbrev pub slot_body : HeldSlot → Body
-slot_body NoSlot = missing
-slot_body (OneSlot l) = body (l.source.0 ∷ l.destination.0 ∷ l.quantity ∷ [])
+abbrev pub slot_body : Option Slot → Body
+slot_body None = missing
+slot_body (Some l) = body (l.source.0 ∷ l.destination.0 ∷ l.quantity ∷ [])
 
-abbrev pub token_body : HeldToken → Body
-token_body NoToken = missing
-token_body (OneToken t) = body (t.source.0 ∷ t.destination.0 ∷ t.quantity ∷ [])
+abbrev pub token_body : Option Token → Body
+token_body None = missing
+token_body (Some t) = body (t.source.0 ∷ t.destination.0 ∷ t.quantity ∷ [])
 
 abbrev pub bodies_of : Message → List Body
 bodies_of m =

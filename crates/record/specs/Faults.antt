@@ -1,22 +1,16 @@
 -- The faults of a record, each with its number.
 use Rattle.std.specs.Prelude.{ℕ}
+use Rattle.record.specs.declared.faults.FaultKind.{FaultKind}
+use Rattle.record.specs.declared.faults.FaultKind.TheVariants.{Cut, OtherTag, OtherLength, UnsoundNumber, Extra}
 
+abbrev pub fault_number : FaultKind → ℕ
 -- the bytes end within a field
-abbrev pub cut : ℕ
-cut = 20
-
+fault_number Cut = 20
 -- another field than one that may stand here
-abbrev pub other_tag : ℕ
-other_tag = 21
-
+fault_number OtherTag = 21
 -- a length that is not the field's
-abbrev pub other_length : ℕ
-other_length = 22
-
+fault_number OtherLength = 22
 -- a number out of range, or not sound with what was read before
-abbrev pub unsound_number : ℕ
-unsound_number = 23
-
+fault_number UnsoundNumber = 23
 -- bytes after the last field that may stand
-abbrev pub extra : ℕ
-extra = 24
+fault_number Extra = 24

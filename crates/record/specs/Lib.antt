@@ -4,5 +4,6 @@ pub mod Fields
 pub mod Walk
 pub mod Dateless
 pub mod Reading
+pub mod Sheet
 pub mod Writing
 pub mod AtStation

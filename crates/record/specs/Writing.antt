@@ -1,7 +1,8 @@
 -- A message written into a lent buffer.
-use Rattle.std.specs.Prelude.{ℕ, ◌≡◌, List, [], ◌∷◌, ◌++◌, not, ltb, length, drop}
-use Rattle.rules.specs.declared.held.HeldSlot.{HeldSlot}
-use Rattle.rules.specs.declared.held.HeldToken.{HeldToken}
+use Rattle.std.specs.Prelude.{ℕ, ◌≡◌, List, [], ◌∷◌, ◌++◌, not, ltb, length, drop, Option, Some, None}
+use Rattle.rules.specs.declared.held.Token.{Token}
+use Rattle.rules.specs.declared.held.Slot.{Slot}
+use Rattle.rules.specs.declared.held.Terms.{Terms}
 use Rattle.rules.specs.declared.message.Message.{Message}
 use Rattle.ground.specs.Answers.{no_record, short_buffer}
 use Rattle.ground.specs.Choice.{if_done}
@@ -12,17 +13,29 @@ use Rattle.ground.specs.Refusals.{Refusal, when, answer_of}
 use Rattle.record.specs.Fields.{tagged, field_of}
 use Rattle.record.specs.Dateless.{slot_field, token_field, slot_body, token_body, record_of}
 
--- the parts of a record, for the code: fields 1 to 4, which every record has, then 5 and 6
+-- the parts of a record: fields 1 to 4, which every record has, then 5 and 6
 abbrev pub front : Message → List ℕ
 front m =
     tagged 1 (1 ∷ []) (m.from ∷ []) ++ tagged 2 (1 ∷ []) (m.to ∷ []) ++ tagged 3 (8 ∷ []) (m.value ∷ [])
     ++ tagged 4 (4 ∷ 4 ∷ []) (m.source.0 ∷ m.destination.0 ∷ [])
 
-abbrev pub slot_bytes : HeldSlot → List ℕ
+abbrev pub slot_bytes : Option Slot → List ℕ
 slot_bytes h = field_of slot_field (slot_body h)
 
-abbrev pub token_bytes : HeldToken → List ℕ
+abbrev pub token_bytes : Option Token → List ℕ
 token_bytes h = field_of token_field (token_body h)
+
+-- a field of terms, as the code puts it: of a tag and of what is held, and how long it is
+abbrev pub terms_bytes : ℕ → Terms → List ℕ
+terms_bytes tag t = tagged tag (4 ∷ 4 ∷ 8 ∷ []) (t.source.0 ∷ t.destination.0 ∷ t.quantity ∷ [])
+
+abbrev pub held_bytes : {H : Type 0} → (H → Terms) → ℕ → Option H → List ℕ
+held_bytes terms tag None = []
+held_bytes terms tag (Some h) = terms_bytes tag (terms h)
+
+abbrev pub held_size : {H : Type 0} → Option H → ℕ
+held_size None = 0
+held_size (Some h) = 19
 
 -- the record in front, and every byte past it as it was
 abbrev pub in_front : List ℕ → List ℕ → List ℕ

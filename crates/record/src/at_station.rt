@@ -14,20 +14,20 @@ pub fn write_message(s: Station, to: u64, buffer: &mut [u8]) -> Told
     ensures { WritesFor s to buffer.old result buffer.new }
 {
     let shown = station::message_for(s, to);
-    let answer = shown.answer;
-    if answer != DONE {
-        return Told { answer, result: 0 };
+    if shown.answer != DONE {
+        return Told {
+            answer: shown.answer,
+            result: 0,
+        };
     }
-    let message = shown.message;
-    write(message, buffer)
+    write(shown.message, buffer)
 }
 
 // Lets a station take a record: refused by 1, 9, 2, 11, 10. Where the bytes are no record, what was
 // read is no sound message.
+#[tactic(auto, unfolding(crate::specs::AtStation::receive_bytes_of))]
 pub fn receive_bytes(s: Station, bytes: &[u8]) -> Outcome
     ensures { result ≡ receive_bytes_of s bytes.now }
 {
-    let got = read(bytes);
-    let message = got.message;
-    station::receive(s, message)
+    station::receive(s, read(bytes).message)
 }

@@ -1,11 +1,24 @@
-// The faults of a record, each with its number.
-// The bytes end within a field.
-pub const CUT: u8 = 20;
-// Another field than one that may stand here.
-pub const OTHER_TAG: u8 = 21;
-// A length that is not the field's.
-pub const OTHER_LENGTH: u8 = 22;
-// A number out of range, or not sound with what was read before.
-pub const UNSOUND_NUMBER: u8 = 23;
-// Bytes after the last field that may stand.
-pub const EXTRA: u8 = 24;
+// What is wrong with bytes that are no record, and where. A reader is told answer 9, whatever the
+// fault.
+
+// What is wrong; the definition `fault_number` has the number of each.
+#[derive(Clone, Copy, Debug, PartialEq, Eq)]
+pub enum FaultKind {
+    // The bytes end within a field.
+    Cut,
+    // Another field than one that may stand here.
+    OtherTag,
+    // A length that is not the field's.
+    OtherLength,
+    // A number out of range, or not sound with what was read before.
+    UnsoundNumber,
+    // Bytes after the last field that may stand.
+    Extra,
+}
+
+// The place is the input's length for a cut, else the first byte of the field, or of what is more.
+#[derive(Clone, Copy, Debug, PartialEq, Eq)]
+pub struct Fault {
+    pub kind: FaultKind,
+    pub at: usize,
+}

@@ -1,11 +1,9 @@
 // A field looked for at a position of a slice.
 ghost use Rattle.std.specs.Prelude.{◌≡◌};
-ghost use Rattle.record.specs.Walk.{look};
-ghost use Rattle.record.specs.Reading.{whole_at, cursor_at, next_of};
+ghost use Rattle.record.specs.Reading.{whole_at, next_of};
 
-use crate::faults::{CUT, OTHER_LENGTH, OTHER_TAG};
+use crate::faults::{Fault, FaultKind};
 use crate::numbers::number_at;
-use ground::answers::DONE;
 
 // A line of the table: tag, length, whether the field must be there, whether it is the last one.
 #[derive(Clone, Copy)]
@@ -16,87 +14,67 @@ pub struct Line {
     pub last: bool,
 }
 
-// 0 and the next byte, or a fault's number and its place.
-#[derive(Clone, Copy)]
-pub struct Cursor {
-    pub answer: u8,
-    pub at: usize,
-}
-
-// Whether a whole field of this tag and length stands at a position.
-fn whole_at(bytes: &[u8], at: usize, tag: u64, size: usize) -> bool
-    ensures { result ≡ whole_at bytes.now at tag size }
+// Whether a whole field of this line stands at a position.
+#[tactic(auto, using(crate::proofs::Finding::too_short, crate::proofs::Finding::tested))]
+fn whole_at(bytes: &[u8], at: usize, line: Line) -> bool
+    ensures { result ≡ whole_at bytes.now at line.tag line.size }
 {
     if bytes.len() < at {
         return false;
     }
     let left = bytes.len() - at;
-    if left < 3 {
+    if left < 3 || left - 3 < line.size {
         return false;
     }
-    if left - 3 < size {
-        return false;
-    }
-    (number_at(bytes, at, 1) == tag) & (number_at(bytes, at + 1, 2) == size as u64)
+    (number_at(bytes, at, 1) == line.tag) & (number_at(bytes, at + 1, 2) == line.size as u64)
 }
 
 // One test after the other.
-fn look_at(bytes: &[u8], at: usize, tag: u64, size: usize, must: bool, last: bool) -> Cursor
-    ensures { result ≡ cursor_at at size (look bytes.now at tag size must last) }
+#[tactic(auto, using(crate::proofs::Finding::one_by_one), unfolding(crate::specs::Reading::next_of))]
+fn look_at(bytes: &[u8], at: usize, line: Line) -> Result<usize, Fault>
+    ensures { result ≡ next_of bytes.now at line }
 {
     let end = bytes.len();
+    let cut = Fault {
+        kind: FaultKind::Cut,
+        at: end,
+    };
     if end <= at {
-        if must {
-            return Cursor {
-                answer: CUT,
-                at: end,
-            };
-        }
-        return Cursor { answer: DONE, at };
+        return if line.must { Err(cut) } else { Ok(at) };
     }
     let left = end - at;
     if left < 3 {
-        return Cursor {
-            answer: CUT,
-            at: end,
-        };
+        return Err(cut);
     }
-    if number_at(bytes, at, 1) != tag {
-        if must | last {
-            return Cursor {
-                answer: OTHER_TAG,
+    if number_at(bytes, at, 1) != line.tag {
+        if line.must || line.last {
+            return Err(Fault {
+                kind: FaultKind::OtherTag,
                 at,
-            };
+            });
         }
-        return Cursor { answer: DONE, at };
+        return Ok(at);
     }
-    if number_at(bytes, at + 1, 2) != size as u64 {
-        return Cursor {
-            answer: OTHER_LENGTH,
+    if number_at(bytes, at + 1, 2) != line.size as u64 {
+        return Err(Fault {
+            kind: FaultKind::OtherLength,
             at,
-        };
+        });
     }
-    if left - 3 < size {
-        return Cursor {
-            answer: CUT,
-            at: end,
-        };
+    if left - 3 < line.size {
+        return Err(cut);
     }
-    Cursor {
-        answer: DONE,
-        at: at + 3 + size,
-    }
+    Ok(at + 3 + line.size)
 }
 
-// The same, with the test first that a sound record passes.
-pub(crate) fn take_at(bytes: &[u8], at: usize, line: Line) -> Cursor
+// The byte after the field, or the same byte where it is missing and may be. The test that a sound
+// record passes comes first.
+#[tactic(auto, using(crate::proofs::Finding::at_once), unfolding(crate::specs::Reading::next_of))]
+pub(crate) fn take_at(bytes: &[u8], at: usize, line: Line) -> Result<usize, Fault>
     ensures { result ≡ next_of bytes.now at line }
 {
-    if whole_at(bytes, at, line.tag, line.size) {
-        return Cursor {
-            answer: DONE,
-            at: at + 3 + line.size,
-        };
+    if whole_at(bytes, at, line) {
+        return Ok(at + 3 + line.size);
     }
-    look_at(bytes, at, line.tag, line.size, line.must, line.last)
+    look_at(bytes, at, line)
 }

@@ -1,90 +1,39 @@
 // Fields 5 and 6, which may be missing.
-ghost use Rattle.record.specs.Reading.{SlotNext, TokenNext};
+ghost use Rattle.std.specs.Prelude.{◌≡◌, ◌+◌, ◌≤◌, length};
+ghost use Rattle.record.specs.Reading.{terms_at, held_next};
 
-use crate::dateless::{SLOT, TOKEN};
-use crate::faults::UNSOUND_NUMBER;
-use crate::front::{destination_at, source_at};
-use crate::numbers::number_at;
+use crate::faults::Fault;
+use crate::fields::Line;
+use crate::numbers::{clock_at, number_at};
 use crate::reader::next_at;
-use ground::answers::DONE;
 use ground::clocks::{DestinationClock, SourceClock};
-use rules::held::{HeldSlot, HeldToken, Slot, Token};
-use station::sound::{slot_is_sound, token_is_sound};
+use rules::held::{Held, Terms};
 
-// 0 and the next byte with the slot, or a fault's number and its place.
-#[derive(Clone, Copy)]
-pub struct AfterSlot {
-    pub answer: u8,
-    pub at: usize,
-    pub slot: HeldSlot,
-}
-
-// 0 and the next byte with the token, or a fault's number and its place.
-#[derive(Clone, Copy)]
-pub struct AfterToken {
-    pub answer: u8,
-    pub at: usize,
-    pub token: HeldToken,
-}
-
-// The slot at a position of a record whose sender has this destination clock.
-pub(crate) fn slot_after(bytes: &[u8], at: usize, clock: DestinationClock) -> AfterSlot
-    ensures { SlotNext bytes.now at clock result }
+fn terms_at(bytes: &[u8], at: usize) -> Terms
+    requires { at + 16 ≤ length bytes.now }
+    ensures { result ≡ terms_at bytes.now at }
 {
-    let found = next_at(bytes, at, SLOT);
-    if (found.answer != DONE) | (found.at == at) {
-        return AfterSlot {
-            answer: found.answer,
-            at: found.at,
-            slot: HeldSlot::NoSlot,
-        };
-    }
-    let slot = HeldSlot::OneSlot(Slot {
-        source: source_at(bytes, at + 3),
-        destination: destination_at(bytes, at + 7),
-        quantity: number_at(bytes, at + 11, 8),
-    });
-    if !slot_is_sound(slot, clock) {
-        return AfterSlot {
-            answer: UNSOUND_NUMBER,
-            at,
-            slot: HeldSlot::NoSlot,
-        };
-    }
-    AfterSlot {
-        answer: DONE,
-        at: found.at,
-        slot,
+    Terms {
+        source: SourceClock(clock_at(bytes, at)),
+        destination: DestinationClock(clock_at(bytes, at + 4)),
+        quantity: number_at(bytes, at + 8, 8),
     }
 }
 
-// The token at a position of a record whose sender has this source clock.
-pub(crate) fn token_after(bytes: &[u8], at: usize, clock: SourceClock) -> AfterToken
-    ensures { TokenNext bytes.now at clock result }
+// What is held by the field of this line, or nothing where the field is missing, and the next byte.
+// Whether it is sound with what was read before is another test.
+#[tactic(auto, using(crate::proofs::Helds::handed_back))]
+pub(crate) fn held_after<H: Held>(
+    bytes: &[u8],
+    at: usize,
+    line: Line,
+) -> Result<(Option<H>, usize), Fault>
+    requires { line.size ≡ 16 }
+    ensures { result ≡ held_next H.held_on bytes.now at line }
 {
-    let found = next_at(bytes, at, TOKEN);
-    if (found.answer != DONE) | (found.at == at) {
-        return AfterToken {
-            answer: found.answer,
-            at: found.at,
-            token: HeldToken::NoToken,
-        };
+    let next = next_at(bytes, at, line)?;
+    if next == at {
+        return Ok((None, at));
     }
-    let token = HeldToken::OneToken(Token {
-        source: source_at(bytes, at + 3),
-        destination: destination_at(bytes, at + 7),
-        quantity: number_at(bytes, at + 11, 8),
-    });
-    if !token_is_sound(token, clock) {
-        return AfterToken {
-            answer: UNSOUND_NUMBER,
-            at,
-            token: HeldToken::NoToken,
-        };
-    }
-    AfterToken {
-        answer: DONE,
-        at: found.at,
-        token,
-    }
+    Ok((Some(H::on(terms_at(bytes, at + 3))), next))
 }

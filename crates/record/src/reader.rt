@@ -3,7 +3,8 @@
 ghost use Rattle.std.specs.Prelude.{◌≡◌};
 ghost use Rattle.record.specs.Reading.{next_of};
 
-use crate::fields::{Cursor, Line, take_at};
+use crate::faults::Fault;
+use crate::fields::{Line, take_at};
 
 #[derive(Clone, Copy)]
 pub struct Reader<'a> {
@@ -19,7 +20,7 @@ impl<'a> Reader<'a> {
     }
 
     // Takes the next field: past it, at the same byte where it is missing, or stopped by its fault.
-    pub(crate) fn next(self, line: Line) -> Cursor
+    pub(crate) fn next(self, line: Line) -> Result<usize, Fault>
         ensures { result ≡ next_of self.entry.record.now self.entry.at line }
     {
         take_at(self.record, self.at, line)
@@ -27,7 +28,7 @@ impl<'a> Reader<'a> {
 }
 
 // The next field of a reader that stands at a position.
-pub(crate) fn next_at(bytes: &[u8], at: usize, line: Line) -> Cursor
+pub(crate) fn next_at(bytes: &[u8], at: usize, line: Line) -> Result<usize, Fault>
     ensures { result ≡ next_of bytes.now at line }
 {
     Reader::new(bytes, at).next(line)

@@ -3,7 +3,8 @@ ghost use Rattle.std.specs.Prelude.{◌≡◌};
 ghost use Rattle.record.specs.Reading.{read_of};
 
 use crate::walking::walk;
-use ground::answers::{DONE, NO_RECORD};
+use ground::answers::DONE;
+use ground::refusal::Refusal;
 use rules::message::{Message, no_message};
 
 // The numbered answer, the record's length, and the message.
@@ -15,21 +16,20 @@ pub struct Reading {
 }
 
 // Refused by 9 where the bytes are no record, whatever the fault.
+#[tactic(auto, unfolding(crate::specs::Reading::read_of))]
 pub fn read(bytes: &[u8]) -> Reading
     ensures { result ≡ read_of bytes.now }
 {
-    let w = walk(bytes);
-    if w.answer != DONE {
-        return Reading {
-            answer: NO_RECORD,
+    match walk(bytes) {
+        Ok((message, end)) => Reading {
+            answer: DONE,
+            result: end as u64,
+            message,
+        },
+        Err(_) => Reading {
+            answer: Refusal::NoRecord.number(),
             result: 0,
             message: no_message(),
-        };
-    }
-    let message = w.message;
-    Reading {
-        answer: DONE,
-        result: w.at as u64,
-        message,
+        },
     }
 }

@@ -1,65 +1,48 @@
 // A record read field by field, front to back: its message, or the first fault and its place.
 ghost use Rattle.std.specs.Prelude.{◌≡◌};
-ghost use Rattle.record.specs.Reading.{walked, stops_at};
+ghost use Rattle.record.specs.Reading.{walked};
 
-use crate::faults::EXTRA;
+use crate::dateless::{SLOT, TOKEN};
+use crate::faults::{Fault, FaultKind};
 use crate::front::front_of;
-use crate::held::{slot_after, token_after};
-use ground::answers::DONE;
-use rules::message::{Message, no_message};
+use crate::held::held_after;
+use rules::message::Message;
+use station::sound::{slot_is_sound, token_is_sound};
 
-// 0 and the record's end with its message, or a fault's number and its place.
-#[derive(Clone, Copy)]
-pub struct Walked {
-    pub answer: u8,
-    pub at: usize,
-    pub message: Message,
-}
-
-fn stopped_at(answer: u8, at: usize) -> Walked
-    ensures { result ≡ stops_at answer at }
-{
-    Walked {
-        answer,
-        at,
-        message: no_message(),
-    }
-}
-
-pub(crate) fn walk(bytes: &[u8]) -> Walked
+// The message and the record's end.
+#[tactic(auto, using(crate::proofs::Whole::walking))]
+pub(crate) fn walk(bytes: &[u8]) -> Result<(Message, usize), Fault>
     ensures { result ≡ walked bytes.now }
 {
-    let front = front_of(bytes);
-    if front.answer != DONE {
-        return stopped_at(front.answer, front.at);
+    let front = front_of(bytes)?;
+    let (slot, next) = held_after(bytes, front.at, SLOT)?;
+    if !slot_is_sound(slot, front.destination) {
+        return Err(Fault {
+            kind: FaultKind::UnsoundNumber,
+            at: front.at,
+        });
     }
-    let source = front.source;
-    let destination = front.destination;
-    let slot = slot_after(bytes, front.at, destination);
-    if slot.answer != DONE {
-        return stopped_at(slot.answer, slot.at);
+    let (token, end) = held_after(bytes, next, TOKEN)?;
+    if !token_is_sound(token, front.source) {
+        return Err(Fault {
+            kind: FaultKind::UnsoundNumber,
+            at: next,
+        });
     }
-    let token = token_after(bytes, slot.at, source);
-    if token.answer != DONE {
-        return stopped_at(token.answer, token.at);
+    if end != bytes.len() {
+        return Err(Fault {
+            kind: FaultKind::Extra,
+            at: end,
+        });
     }
-    if token.at != bytes.len() {
-        return stopped_at(EXTRA, token.at);
-    }
-    let held_slot = slot.slot;
-    let held_token = token.token;
     let message = Message {
         from: front.from,
         to: front.to,
         value: front.value,
-        source,
-        destination,
-        slot: held_slot,
-        token: held_token,
+        source: front.source,
+        destination: front.destination,
+        slot,
+        token,
     };
-    Walked {
-        answer: DONE,
-        at: token.at,
-        message,
-    }
+    Ok((message, end))
 }

@@ -3,3 +3,4 @@ pub mod Ruling
 pub mod InOrder
 pub mod Refusing
 pub mod Spent
+pub mod Terms

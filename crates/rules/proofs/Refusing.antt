@@ -1,11 +1,11 @@
 -- Answers looked for in order. Assumes nothing.
+use Rattle.std.proofs.Common.{Option, Some, None}
 use Prim.Native.Nat.{ℕ, ◌+◌, ◌≤◌}
 use mathlib.Core.Path.{◌≡◌, refl, sym}
 use mathlib.Core.Bool.{true, false, not}
+use Rattle.rules.specs.declared.held.Token.{Token}
 use lib.Dec.{ltb, leb}
 use borrow.Author.Tests.{leb-true, ltb-false, not-false}
-use Rattle.rules.specs.declared.held.HeldToken.{HeldToken}
-use Rattle.rules.specs.declared.held.HeldToken.TheVariants.{NoToken, OneToken}
 use Rattle.rules.specs.declared.message.Message.{Message}
 use Rattle.rules.specs.declared.side.Side.{Side}
 use Rattle.rules.specs.declared.stock.Stock.{Stock}
@@ -60,9 +60,9 @@ pub take_done : (x : Side) (m : Message) → take_answer x m ≡ 0 → taken_of 
 unfolding taken_of
 take_done x m e = sym (when_done (five_rules x m) _ e)
 
-pub small_fits : (h : HeldToken) → token_small h ≡ true → TokenInRange h
-small_fits NoToken e = tt
-small_fits (OneToken t) e = leb-true _ _ e
+pub small_fits : (h : Option Token) → token_small h ≡ true → TokenInRange h
+small_fits None e = tt
+small_fits (Some t) e = leb-true _ _ e
 
 -- the rules may take what is not refused
 pub takes : (x : Side) (m : Message) → take_answer x m ≡ 0 → Takes x m

@@ -1,4 +1,5 @@
 pub mod Message
+pub mod Terms
 pub mod Report
 pub mod Half
 pub mod Side

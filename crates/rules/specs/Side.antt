@@ -1,9 +1,9 @@
 -- A side with one part put anew.
-use Rattle.std.specs.Prelude.{ℕ}
+use Rattle.std.specs.Prelude.{ℕ, Option}
+use Rattle.rules.specs.declared.held.Token.{Token}
+use Rattle.rules.specs.declared.held.Slot.{Slot}
 use Rattle.ground.specs.declared.clocks.SourceClock.{SourceClock}
 use Rattle.ground.specs.declared.clocks.DestinationClock.{DestinationClock}
-use Rattle.rules.specs.declared.held.HeldSlot.{HeldSlot}
-use Rattle.rules.specs.declared.held.HeldToken.{HeldToken}
 use Rattle.rules.specs.declared.side.Side.{Side}
 
 abbrev pub put_value : Side → ℕ → Side
@@ -15,8 +15,8 @@ put_source x k = record { value = x.value; source = k; destination = x.destinati
 abbrev pub put_destination : Side → DestinationClock → Side
 put_destination x k = record { value = x.value; source = x.source; destination = k; slot = x.slot; token = x.token }
 
-abbrev pub put_slot : Side → HeldSlot → Side
+abbrev pub put_slot : Side → Option Slot → Side
 put_slot x h = record { value = x.value; source = x.source; destination = x.destination; slot = h; token = x.token }
 
-abbrev pub put_token : Side → HeldToken → Side
+abbrev pub put_token : Side → Option Token → Side
 put_token x h = record { value = x.value; source = x.source; destination = x.destination; slot = x.slot; token = h }

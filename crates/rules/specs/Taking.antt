@@ -1,7 +1,6 @@
 -- Taking a message: the five rules in order, each at what the earlier ones left.
-use Rattle.std.specs.Prelude.{ℕ, ◌≤◌, Bool, true, not, ◌&&◌, List, [], ◌∷◌, ltb, leb}
-use Rattle.rules.specs.declared.held.HeldToken.{HeldToken}
-use Rattle.rules.specs.declared.held.HeldToken.TheVariants.{NoToken, OneToken}
+use Rattle.std.specs.Prelude.{ℕ, ◌≤◌, Bool, true, not, ◌&&◌, List, [], ◌∷◌, ltb, leb, Option, Some, None}
+use Rattle.rules.specs.declared.held.Token.{Token}
 use Rattle.rules.specs.declared.message.Message.{Message}
 use Rattle.rules.specs.declared.side.Side.{Side}
 use Rattle.rules.specs.declared.rules.Ruled.{Ruled}
@@ -43,9 +42,9 @@ five_rules x m =
 
 -- what a message shows is in range as far as the rules lean on it: its value, and the quantity of
 -- its token
-abbrev pub token_small : HeldToken → Bool
-token_small NoToken = true
-token_small (OneToken t) = leb t.quantity most_value
+abbrev pub token_small : Option Token → Bool
+token_small None = true
+token_small (Some t) = leb t.quantity most_value
 
 abbrev pub message_small : Message → Bool
 message_small m = leb m.value most_value && token_small m.token
@@ -69,9 +68,9 @@ unfoldable pub taken_of : Side → Message → Taken
 taken_of x m = if_done (take_answer x m) (five_rules x m) (refused_taking (take_answer x m) x)
 
 -- the same range, as what the sums and differences of the rules ask for
-abbrev pub TokenInRange : HeldToken → Type 0
-TokenInRange NoToken = Unit {0}
-TokenInRange (OneToken t) = t.quantity ≤ most_value
+abbrev pub TokenInRange : Option Token → Type 0
+TokenInRange None = Unit {0}
+TokenInRange (Some t) = t.quantity ≤ most_value
 
 pub record Takes (x : Side) (m : Message) : Type 0 where
   pub value : x.value ≤ most_value

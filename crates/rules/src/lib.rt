@@ -8,8 +8,10 @@ pub mod message;
 pub mod report;
 pub mod rules;
 pub mod side;
+mod slot;
 pub mod stock;
 pub mod taking;
+mod token;
 
 pub use stock::{add_to, draw_from};
 pub use taking::take;

@@ -2,7 +2,7 @@
 ghost use Rattle.std.specs.Prelude.{◌≡◌};
 ghost use Rattle.rules.specs.Message.{no_message};
 
-use crate::held::{HeldSlot, HeldToken};
+use crate::held::{Slot, Token};
 use ground::clocks::{DestinationClock, SourceClock};
 
 #[derive(Clone, Copy)]
@@ -12,8 +12,8 @@ pub struct Message {
     pub value: u64,
     pub source: SourceClock,
     pub destination: DestinationClock,
-    pub slot: HeldSlot,
-    pub token: HeldToken,
+    pub slot: Option<Slot>,
+    pub token: Option<Token>,
 }
 
 // Every number 0 and nothing held.
@@ -26,7 +26,7 @@ pub fn no_message() -> Message
         value: 0,
         source: SourceClock(0),
         destination: DestinationClock(0),
-        slot: HeldSlot::NoSlot,
-        token: HeldToken::NoToken,
+        slot: None,
+        token: None,
     }
 }

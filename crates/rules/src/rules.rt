@@ -5,9 +5,9 @@ ghost use Rattle.ground.specs.Clocks.{destination_above};
 ghost use Rattle.rules.specs.Rules.{acts, rests, agree, fill, drop_slot, open_slot_by, destination_shown, drop_token, give, make_token};
 ghost use Rattle.rules.specs.Taking.{TokenInRange};
 
-use crate::held::{HeldSlot, HeldToken, Slot, Token};
+use crate::held::{Slot, Token};
 use crate::message::Message;
-use crate::side::{Side, put_destination, put_slot, put_source, put_token, put_value};
+use crate::side::Side;
 
 // What one rule did: whether it acted, its quantity, and the side that it left.
 #[derive(Clone, Copy)]
@@ -17,23 +17,23 @@ pub struct Ruled {
     pub side: Side,
 }
 
-fn acts_with(quantity: u64, x: Side) -> Ruled
-    ensures { result ≡ acts quantity x }
+fn acts_with(quantity: u64, side: Side) -> Ruled
+    ensures { result ≡ acts quantity side }
 {
     Ruled {
         acted: true,
         quantity,
-        side: x,
+        side,
     }
 }
 
-fn rests_at(x: Side) -> Ruled
-    ensures { result ≡ rests x }
+fn rests_at(side: Side) -> Ruled
+    ensures { result ≡ rests side }
 {
     Ruled {
         acted: false,
         quantity: 0,
-        side: x,
+        side,
     }
 }
 
@@ -41,31 +41,27 @@ fn rests_at(x: Side) -> Ruled
 pub fn clocks_agree(t: Token, l: Slot) -> bool
     ensures { result ≡ agree t l }
 {
-    let made = t.source;
-    let asked = l.source;
-    let sent = t.destination;
-    let opened = l.destination;
-    made.equals(asked) & sent.equals(opened)
+    t.source == l.source && t.destination == l.destination
 }
 
 pub(crate) fn rule1_fill(x: Side, m: Message) -> Ruled
     requires { (x.value ≤ most_value) × TokenInRange m.token }
     ensures { result ≡ fill x m }
 {
-    let shown = m.token;
-    let held = x.slot;
-    let HeldToken::OneToken(token) = shown else {
-        return rests_at(x);
-    };
-    let HeldSlot::OneSlot(slot) = held else {
+    let (Some(token), Some(slot)) = (m.token, x.slot) else {
         return rests_at(x);
     };
     if !clocks_agree(token, slot) {
         return rests_at(x);
     }
+    let value = x.value + token.quantity;
     acts_with(
         token.quantity,
-        put_slot(put_value(x, x.value + token.quantity), HeldSlot::NoSlot),
+        Side {
+            value,
+            slot: None,
+            ..x
+        },
     )
 }
 
@@ -73,39 +69,37 @@ pub(crate) fn rule2_drop_slot(x: Side, m: Message) -> Ruled
     ensures ruled { result ≡ drop_slot x m }
     ensures value_stays { result.side.value ≡ x.value }
 {
-    let held = x.slot;
-    let HeldSlot::OneSlot(slot) = held else {
+    let Some(slot) = x.slot else {
         return rests_at(x);
     };
-    let theirs = m.source;
-    let asked = slot.source;
-    if !theirs.is_above(asked) {
+    if m.source <= slot.source {
         return rests_at(x);
     }
-    acts_with(0, put_slot(x, HeldSlot::NoSlot))
+    acts_with(0, Side { slot: None, ..x })
 }
 
 // h is half of what the sender has more.
 pub(crate) fn rule3_open_slot(x: Side, m: Message, h: u64) -> Ruled
     ensures { result ≡ open_slot_by x m h x.slot }
 {
-    let held = x.slot;
-    let HeldSlot::NoSlot = held else {
+    let None = x.slot else {
         return rests_at(x);
     };
-    let destination = x.destination;
-    if !((1 <= h) & destination.before_end()) {
+    if !(1 <= h && x.destination.before_end()) {
         return rests_at(x);
     }
-    let theirs = m.source;
     let slot = Slot {
-        source: theirs,
-        destination,
+        source: m.source,
+        destination: x.destination,
         quantity: h,
     };
     acts_with(
         h,
-        put_destination(put_slot(x, HeldSlot::OneSlot(slot)), destination.next()),
+        Side {
+            destination: x.destination.next(),
+            slot: Some(slot),
+            ..x
+        },
     )
 }
 
@@ -113,33 +107,22 @@ pub(crate) fn rule3_open_slot(x: Side, m: Message, h: u64) -> Ruled
 fn is_spent(token: Token, m: Message) -> bool
     ensures { result ≡ destination_above (destination_shown m) token.destination }
 {
-    let asked = token.destination;
-    let shown = m.slot;
-    let HeldSlot::OneSlot(open) = shown else {
-        let theirs = m.destination;
-        return theirs.is_above(asked);
-    };
-    let theirs = open.destination;
-    theirs.is_above(asked)
+    match m.slot {
+        Some(open) => token.destination < open.destination,
+        None => token.destination < m.destination,
+    }
 }
 
 pub(crate) fn rule4_drop_token(x: Side, m: Message) -> Ruled
     ensures { result ≡ drop_token x m }
 {
-    let held = x.token;
-    let HeldToken::OneToken(token) = held else {
+    let Some(token) = x.token else {
         return rests_at(x);
     };
     if !is_spent(token, m) {
         return rests_at(x);
     }
-    acts_with(0, put_token(x, HeldToken::NoToken))
-}
-
-pub(crate) fn smaller(a: u64, b: u64) -> u64
-    ensures { result ≡ min a b }
-{
-    if a < b { a } else { b }
+    acts_with(0, Side { token: None, ..x })
 }
 
 // What rule 5 leaves where it acts: q out of the value and in the token, and the source clock one on.
@@ -147,32 +130,28 @@ fn give(x: Side, slot: Slot, q: u64) -> Side
     requires { q ≤ x.value }
     ensures { result ≡ give x slot q }
 {
-    let asked = slot.source;
-    let opened = slot.destination;
     let token = Token {
-        source: asked,
-        destination: opened,
+        source: slot.source,
+        destination: slot.destination,
         quantity: q,
     };
-    let source = x.source;
-    put_source(
-        put_token(put_value(x, x.value - q), HeldToken::OneToken(token)),
-        source.next(),
-    )
+    Side {
+        value: x.value - q,
+        source: x.source.next(),
+        token: Some(token),
+        ..x
+    }
 }
 
 pub(crate) fn rule5_make_token(x: Side, m: Message) -> Ruled
     ensures { result ≡ make_token x m }
 {
-    let shown = m.slot;
-    let HeldSlot::OneSlot(slot) = shown else {
+    let Some(slot) = m.slot else {
         return rests_at(x);
     };
-    let asked = slot.source;
-    let source = x.source;
-    if !(asked.equals(source) & source.before_end()) {
+    if !(slot.source == x.source && x.source.before_end()) {
         return rests_at(x);
     }
-    let q = smaller(x.value, slot.quantity);
+    let q = x.value.min(slot.quantity);
     acts_with(q, give(x, slot, q))
 }

@@ -1,11 +1,12 @@
 // What an add and a draw do to a stock of passes: a value, and the intake, which is all that was
 // ever added.
 ghost use Rattle.std.specs.Prelude.{◌≡◌};
+ghost use Rattle.ground.specs.Tested.{number_of, tested};
 ghost use Rattle.rules.specs.Stock.{stock_sound, amount_sound, refused_stock, add_to_answer, added_to, drawn_from};
 
-use crate::rules::smaller;
-use ground::answers;
+use ground::answers::DONE;
 use ground::limits::{MOST_AMOUNT, MOST_INTAKE, MOST_VALUE};
+use ground::refusal::Refusal;
 
 #[derive(Clone, Copy)]
 pub struct Stock {
@@ -18,57 +19,56 @@ pub struct Stock {
 fn stock_is_sound(value: u64, intake: u64) -> bool
     ensures { result ≡ stock_sound value intake }
 {
-    (value <= MOST_VALUE) & (intake <= MOST_INTAKE)
+    value <= MOST_VALUE && intake <= MOST_INTAKE
 }
 
 fn amount_is_sound(amount: u64) -> bool
     ensures { result ≡ amount_sound amount }
 {
-    (1 <= amount) & (amount <= MOST_AMOUNT)
+    (1..=MOST_AMOUNT).contains(&amount)
 }
 
 // A refusal: result 0, and the stock as it was.
-fn refuse(answer: u8, value: u64, intake: u64) -> Stock
-    ensures { result ≡ refused_stock answer value intake }
+fn refuse(refusal: Refusal, value: u64, intake: u64) -> Stock
+    ensures { result ≡ refused_stock (number_of refusal) value intake }
 {
     Stock {
-        answer,
+        answer: refusal.number(),
         result: 0,
         value,
         intake,
     }
 }
 
-fn add_to_answer(value: u64, intake: u64, amount: u64) -> u8
-    ensures { result ≡ add_to_answer value intake amount }
+fn test_add(value: u64, intake: u64, amount: u64) -> Result<(), Refusal>
+    ensures { tested result ≡ add_to_answer value intake amount }
 {
     if !stock_is_sound(value, intake) {
-        return answers::NOT_SOUND;
+        return Err(Refusal::NotSound);
     }
     if !amount_is_sound(amount) {
-        return answers::BAD_AMOUNT;
+        return Err(Refusal::BadAmount);
     }
     if MOST_INTAKE < intake + amount {
-        return answers::INTAKE_LIMIT;
+        return Err(Refusal::IntakeLimit);
     }
     if MOST_VALUE < value + amount {
-        return answers::VALUE_LIMIT;
+        return Err(Refusal::ValueLimit);
     }
-    answers::DONE
+    Ok(())
 }
 
 // Raises value and intake: refused by 1, 4, 5, 10.
-#[tactic(auto, unfolding(crate::specs::Stock::added_to))]
+#[tactic(auto, using(ground::proofs::Tested::not_done), unfolding(crate::specs::Stock::added_to))]
 pub fn add_to(value: u64, intake: u64, amount: u64) -> Stock
     ensures { result ≡ added_to value intake amount }
 {
-    let answer = add_to_answer(value, intake, amount);
-    if answer != answers::DONE {
-        return refuse(answer, value, intake);
+    if let Err(refusal) = test_add(value, intake, amount) {
+        return refuse(refusal, value, intake);
     }
     let more = value + amount;
     Stock {
-        answer,
+        answer: DONE,
         result: more,
         value: more,
         intake: intake + amount,
@@ -81,18 +81,18 @@ pub fn draw_from(value: u64, intake: u64, amount: u64) -> Stock
     ensures { result ≡ drawn_from value intake amount }
 {
     if !stock_is_sound(value, intake) {
-        return refuse(answers::NOT_SOUND, value, intake);
+        return refuse(Refusal::NotSound, value, intake);
     }
     if !amount_is_sound(amount) {
-        return refuse(answers::BAD_AMOUNT, value, intake);
+        return refuse(Refusal::BadAmount, value, intake);
     }
     // never more than is there, so that nothing goes below 0
-    let taken = smaller(value, amount);
+    let taken = value.min(amount);
     if taken < amount {
-        return refuse(answers::TOO_FEW, value, intake);
+        return refuse(Refusal::TooFew, value, intake);
     }
     Stock {
-        answer: answers::DONE,
+        answer: DONE,
         result: taken,
         value: value - taken,
         intake,

@@ -42,9 +42,9 @@ same_place : (a b : Clause) → place_of a ≡ place_of b → a ≡ b
 same_place a b e = sym (listed a) ∙ ap (λ (n : ℕ). get_or clauses n stale) e ∙ listed b
 
 -- a run that fails one clause and passes the tests of all others
-pub alone : (clause : Clause) (build : Build) (t : Table) (steps : List Step) → others_test clause build t steps ≡ true → (says clause build t steps → ⊥)
+pub alone : {clause : Clause} {build : Build} {t : Table} {steps : List Step} → others_test clause build t steps ≡ true → (says clause build t steps → ⊥)
     → FailsAlone clause build t steps
-alone clause build t steps e f = record { fails = f; others = λ other apart. others other apart }
+alone {clause} {build} {t} {steps} e f = record { fails = f; others = λ other apart. others other apart }
   where
     others : (other : Clause) → other ≢ clause → says other build t steps
     others other apart =

@@ -1,22 +1,22 @@
 -- Demand 3 holds of every build each of whose steps goes on from what a run has reached and leaves
 -- a sound table. Assumes nothing.
+use Rattle.std.proofs.Common.{Some, slice_get}
+use Rattle.std.proofs.lemmas.Bool.Decides.{nat_tests}
+use Rattle.std.proofs.lemmas.Option.{same_Some}
 use Prim.Native.Nat.{ℕ, zero, suc, ◌+◌}
 use mathlib.Core.Path.{◌≡◌, refl, ap, subst}
 use mathlib.Core.Bool.{true, false}
 use mathlib.Core.List.{List, [], ◌∷◌, ◌++◌, append-nil, append_assoc}
-use mathlib.Core.Option.{some}
 use mathlib.Core.Logic.{⊎_elim}
 use native.Mathlib.Nat.{add-zero, add_assoc}
 use native.Mathlib.Omega.{arith}
-use Rattle.handshake.specs.History.{Transfer, transfer, Entry, arrival, at, In}
+use Rattle.handshake.specs.History.{Transfer, transfer, Entry, arrival, In}
 use Rattle.handshake.proofs.Histories.{in_either}
-use Rattle.handshake.proofs.Keeps.{not_both, same_one, stale_spent}
+use Rattle.handshake.proofs.Keeps.{stale_spent}
 use Rattle.handshake.proofs.Passages.{SpentIn}
 use Rattle.ground.specs.Answers.{done}
 use Rattle.station.specs.Held.{slot_for, token_for}
 use Rattle.station.specs.Sound.{count_sound}
-use Rattle.ground.proofs.Tests.{needed}
-use Rattle.rules.specs.declared.held.HeldToken.TheVariants.{OneToken}
 use Rattle.rules.specs.declared.held.Token.{Token}
 use Rattle.table.specs.Fresh.{fresh_table_of}
 use Rattle.table.specs.Sound.{table_sound}
@@ -33,16 +33,16 @@ use Rattle.runs.proofs.Seen.{token_seen, web_of}
 
 -- a stored token for which no slot waits is spent
 stale : {t : Table} {H : List (Entry ℕ)} {plus minus : ℕ} → Reached t H plus minus → (i j : ℕ) (k : Token)
-    → token_for (station_at t i) j ≡ OneToken k → waits_for (slot_for (station_at t j) i) k ≡ false
+    → token_for (station_at t i) j ≡ Some k → waits_for (slot_for (station_at t j) i) k ≡ false
     → SpentIn (web_of t) (transfer i j (amounting k.source.0 k.destination.0 k.quantity))
 stale {t} r i j k e f =
     let token = amounting k.source.0 k.destination.0 k.quantity in
     stale_spent (r.holds.standing i j) token (ap token_seen e)
-    (λ o. misfit (OneToken k) (slot_for (station_at t j) i) f token o.slot refl o.stands o.source o.destination)
+    (λ o. misfit (Some k) (slot_for (station_at t j) i) f token o.slot refl o.stands o.source o.destination)
 
 fresh_count : (count : ℕ) → (fresh_table_of count).answer ≡ done → count_sound count ≡ true
 unfolding fresh_table_of
-fresh_count count e = needed (count_sound count) (λ f. let z : ◌≡◌ {A = ℕ} 1 0 = rw f at e in absurd (omega arith))
+fresh_count count e = grind (arith, nat_tests)
 
 -- what each step of a build has to show
 pub record EachStep (build : Build) : Type 0 where
@@ -74,17 +74,17 @@ module _ {build : Build} (each : EachStep build) where
   run_reached (step ∷ steps) r = simp (append_assoc, add_assoc) at (run_reached steps (step_reached r step))
 
   run_plain : (steps : List Step) {t : Table} {H : List (Entry ℕ)} {plus minus : ℕ} → Reached t H plus minus
-      → (i : ℕ) (x : Line) → at (log_of build t steps) i ≡ some x → Plain x.answer
-  unfolding log_of at
-  run_plain [] r i x e = absurd (not_both refl e)
-  run_plain (step ∷ steps) r zero x e = subst (λ (y : Line). Plain y.answer) (same_one refl e) (step_plain r step)
+      → (i : ℕ) (x : Line) → slice_get (log_of build t steps) i ≡ Some x → Plain x.answer
+  unfolding log_of
+  run_plain [] r i x e = cc
+  run_plain (step ∷ steps) r zero x e = subst (λ (y : Line). Plain y.answer) (same_Some _ _ e) (step_plain r step)
   run_plain (step ∷ steps) r (suc i) x e = run_plain steps (step_reached r step) i x e
 
   -- what is spent never arrives
   run_stays_out : (steps : List Step) {t : Table} {H : List (Entry ℕ)} {plus minus : ℕ} → Reached t H plus minus
       → (x : Transfer ℕ) → SpentIn (web_of t) x → In (arrival x) (history_of (log_of build t steps)) → ⊥
-  unfolding log_of history_of at
-  run_stays_out [] r x s i = not_both refl i.1
+  unfolding log_of history_of
+  run_stays_out [] r x s i = let e = i.1 in cc
   run_stays_out (step ∷ steps) {t} r x s i =
       let after = (step_goes r step).passage.spent x.maker x.receiver x.token.source x.token.destination s in
       ⊎_elim ((step_goes r step).passage.stays_out x s) (run_stays_out steps (step_reached r step) x after)

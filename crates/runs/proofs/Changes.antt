@@ -1,5 +1,6 @@
 -- What a step can change in a table that a run reached: nothing, a station's stock, a place, or
 -- what a receiver has taken. Assumes nothing.
+use Rattle.std.proofs.Common.{Option, Some}
 use Prim.Native.Nat.{ℕ, ◌+◌, ◌<◌, ◌≤◌}
 use mathlib.Core.Path.{◌≡◌, refl, sym, subst}
 use mathlib.Core.List.{List, []}
@@ -22,8 +23,6 @@ use Rattle.station.specs.declared.station.Station.{Station}
 use Rattle.ground.proofs.Stores.{stored}
 use Rattle.table.specs.Table.{station_at, waiting_at, put_station, put_place}
 use Rattle.pool.specs.declared.places.Place.{Place}
-use Rattle.pool.specs.declared.places.Waiting.{Waiting}
-use Rattle.pool.specs.declared.places.Waiting.TheVariants.{One}
 use Rattle.table.specs.declared.table.Table.{Table}
 use Rattle.table.proofs.Tables.{table_parts}
 use Rattle.runs.specs.Demand3.{amount}
@@ -68,7 +67,7 @@ module _ {t : Table} {H : List (Entry ℕ)} {plus minus : ℕ} (r : Reached t H 
       }
 
   -- a place: a message that shows its sender as it is now, or nothing
-  pub place_goes : (p : ℕ) (v : Waiting) → ((m : Message) → v ≡ One m → Present (web_of t) (letter_of m)) → Goes t (put_place t p v) H [] 0 0
+  pub place_goes : (p : ℕ) (v : Option Message) → ((m : Message) → v ≡ Some m → Present (web_of t) (letter_of m)) → Goes t (put_place t p v) H [] 0 0
   unfolding departed arrived
   place_goes p v sent =
       record {
@@ -80,13 +79,13 @@ module _ {t : Table} {H : List (Entry ℕ)} {plus minus : ℕ} (r : Reached t H 
         intakes = omega arith;
       }
     where
-      waits : (l : Letter ℕ ℕ) (n : ℕ) (m : Message) → waiting_at (put_place t p v) n ≡ One m → letter_of m ≡ l → waits_in t l ⊎ Present (web_of t) l
+      waits : (l : Letter ℕ ℕ) (n : ℕ) (m : Message) → waiting_at (put_place t p v) n ≡ Some m → letter_of m ≡ l → waits_in t l ⊎ Present (web_of t) l
       waits l n m e f =
-          stored (λ (x : Place). x.waiting ≡ One m → waits_in t l ⊎ Present (web_of t) l) t.pool p n _ (λ _ c. inr (subst (Present (web_of t)) f (sent m c)))
+          stored (λ (x : Place). x.waiting ≡ Some m → waits_in t l ⊎ Present (web_of t) l) t.pool p n _ (λ _ c. inr (subst (Present (web_of t)) f (sent m c)))
           (λ c. inl (n, m, c, f)) e
 
   -- a message that waits, taken by the station that it is for
-  module _ (p : ℕ) (m : Message) (waiting : waiting_at t p ≡ One m) (apart : m.from ≡ m.to → ⊥) (from : m.from < t.count) (to : m.to < t.count) where
+  module _ (p : ℕ) (m : Message) (waiting : waiting_at t p ≡ Some m) (apart : m.from ≡ m.to → ⊥) (from : m.from < t.count) (to : m.to < t.count) where
     abbrev taker : Station
     taker = station_at t m.to
 
@@ -107,7 +106,7 @@ module _ {t : Table} {H : List (Entry ℕ)} {plus minus : ℕ} (r : Reached t H 
         omega (arith, (filled before m).1, way_seen t, enough_room r, a.0, a.1)
 
     pub taken_goes : let x = five_rules before m in
-        Goes t (put_station t m.to (put_side taker m.from x.side)) H (entries_by (One m) x.result x.report) 0 0
+        Goes t (put_station t m.to (put_side taker m.from x.side)) H (entries_by (Some m) x.result x.report) 0 0
     taken_goes =
         let x = five_rules before m in
         let s = put_side taker m.from x.side in
@@ -118,7 +117,7 @@ module _ {t : Table} {H : List (Entry ℕ)} {plus minus : ℕ} (r : Reached t H 
           count = refl;
           full = station_full m.to r.full (side_full m.from x.side lengths);
           passage =
-              subst (λ (X : Web ℕ ℕ). Passage amount t.count (web_of t) X (waits_in t) H (entries_by (One m) x.result x.report))
+              subst (λ (X : Web ℕ ℕ). Passage amount t.count (web_of t) X (waits_in t) H (entries_by (Some m) x.result x.report))
               (λ j g n.
               sym (side_put t m.to m.from x.side (here m.to to) (omega (arith, lengths.slots)) (omega (arith, lengths.tokens)) g n) j)
               (taken_stage (web_of t) (web_of t) (waits_in t) H t.count m (p, m, waiting, refl) apart from to before start);

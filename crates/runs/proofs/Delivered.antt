@@ -1,9 +1,12 @@
 -- Taking a message by the five rules is a passage, with the entries that its report tells. Assumes
 -- nothing.
+use Rattle.std.proofs.Common.{Option, Some, None}
 use Prim.Native.Nat.{ℕ, ◌<◌}
-use mathlib.Core.Path.{◌≡◌, refl, ap}
+use mathlib.Core.Path.{◌≡◌, refl}
 use mathlib.Core.Bool.{Bool, true, false}
 use mathlib.Core.List.{List, [], ◌++◌}
+use Rattle.rules.specs.declared.held.Token.{Token}
+use Rattle.rules.specs.declared.held.Slot.{Slot}
 use Rattle.handshake.specs.Channel.{Channel}
 use Rattle.handshake.specs.Clauses.{Standing, GiverShows, ReceiverShows}
 use Rattle.handshake.specs.History.{Entry, entries}
@@ -13,15 +16,8 @@ use Rattle.handshake.proofs.Passages.{Passage, next, quietly}
 use Rattle.rules.specs.Half.{half_above}
 use Rattle.rules.specs.Rules.{fill, drop_slot, open_slot, drop_token, make_token}
 use Rattle.rules.specs.Taking.{five_rules}
-use Rattle.ground.specs.declared.clocks.SourceClock.{SourceClock}
-use Rattle.ground.specs.declared.clocks.DestinationClock.{DestinationClock}
-use Rattle.rules.specs.declared.held.HeldSlot.{HeldSlot}
-use Rattle.rules.specs.declared.held.HeldSlot.TheVariants.{NoSlot, OneSlot}
-use Rattle.rules.specs.declared.held.HeldToken.{HeldToken}
-use Rattle.rules.specs.declared.held.HeldToken.TheVariants.{NoToken, OneToken}
 use Rattle.rules.specs.declared.message.Message.{Message}
 use Rattle.rules.specs.declared.side.Side.{Side}
-use Rattle.pool.specs.declared.places.Waiting.TheVariants.{One}
 use Rattle.runs.specs.Runs.{arrival_by, departure_by, entries_by}
 use Rattle.runs.specs.Demand3.{amount}
 use Rattle.runs.proofs.Seen.{slot_seen, token_seen, end_of, letter_of, inward, outward, arrives_by, departs_by}
@@ -29,15 +25,15 @@ use Rattle.runs.proofs.Ruled.{fits, fill_turns, fill_leaves, drop_slot_turns, op
 use Rattle.runs.proofs.LeftAlone.{filled, slot_dropped_lem, slot_opened, token_dropped, token_made_lem}
 
 -- what is reported and what the channel sees are the same entries
-arrival_entries : (m : Message) (h : HeldToken) (acted : Bool) (q : ℕ) → entries m.from m.to (arrives_by h acted q) ≡ arrival_by m h acted q
-arrival_entries m (OneToken t) true q = refl
-arrival_entries m (OneToken t) false q = refl
-arrival_entries m NoToken acted q = refl
+arrival_entries : (m : Message) (h : Option Token) (acted : Bool) (q : ℕ) → entries m.from m.to (arrives_by h acted q) ≡ arrival_by m h acted q
+arrival_entries m (Some t) true q = refl
+arrival_entries m (Some t) false q = refl
+arrival_entries m None acted q = refl
 
-departure_entries : (m : Message) (h : HeldSlot) (acted : Bool) (q : ℕ) → entries m.to m.from (departs_by h acted q) ≡ departure_by m h acted q
-departure_entries m (OneSlot l) true q = refl
-departure_entries m (OneSlot l) false q = refl
-departure_entries m NoSlot acted q = refl
+departure_entries : (m : Message) (h : Option Slot) (acted : Bool) (q : ℕ) → entries m.to m.from (departs_by h acted q) ≡ departure_by m h acted q
+departure_entries m (Some l) true q = refl
+departure_entries m (Some l) false q = refl
+departure_entries m None acted q = refl
 
 module _ (start W : Web ℕ ℕ) (Waits : Letter ℕ ℕ → Type 0) (H : List (Entry ℕ)) (n : ℕ) (m : Message) (waits : Waits (letter_of m)) (apart : m.from ≡ m.to → ⊥) (from : m.from < n) (to : m.to < n) where
   -- the receiver has side x for the sender, and the entries K were made
@@ -69,35 +65,35 @@ module _ (start W : Web ℕ ℕ) (Waits : Letter ℕ ℕ → Type 0) (H : List (
         let a = (filled x m).0 in
         let turn = fill_turns theirs.source theirs.token x m.token x.slot refl in_shows in
         rw (arrival_entries m m.token (fill x m).acted (fill x m).quantity) at
-        (next z (takes W m.to m.from (end_of x) (end_of (fill x m).side) apart (ap (λ (k : SourceClock). k.0) a.source) (ap token_seen a.token) turn) from to)
+        (next z (takes W m.to m.from (end_of x) (end_of (fill x m).side) apart (cc) (cc) turn) from to)
 
     drop_slot_stage : fits m.token x.slot ≡ false → Stage (drop_slot x m).side K
     drop_slot_stage f =
         let a = (slot_dropped_lem x m).0 in
         let turn = drop_slot_turns theirs.source theirs.token x m x.slot refl f in_shows in
-        quietly z (takes W m.to m.from (end_of x) (end_of (drop_slot x m).side) apart (ap (λ (k : SourceClock). k.0) a.source) (ap token_seen a.token) turn) from to
+        quietly z (takes W m.to m.from (end_of x) (end_of (drop_slot x m).side) apart (cc) (cc) turn) from to
 
     open_slot_stage : Stage (open_slot x m).side K
     open_slot_stage =
         let a = (slot_opened x m).0 in
         let turn = open_slot_turns theirs.source theirs.token x m (half_above m.value x.value) x.slot refl in_stands in_shows in
-        quietly z (takes W m.to m.from (end_of x) (end_of (open_slot x m).side) apart (ap (λ (k : SourceClock). k.0) a.source) (ap token_seen a.token) turn) from to
+        quietly z (takes W m.to m.from (end_of x) (end_of (open_slot x m).side) apart (cc) (cc) turn) from to
 
     drop_token_stage : Stage (drop_token x m).side K
     drop_token_stage =
         let a = (token_dropped x m).0 in
         let turn = drop_token_turns ours.destination ours.slot x m x.token m.slot refl out_shows in
-        quietly z (gives W m.to m.from (end_of x) (end_of (drop_token x m).side) apart (ap (λ (k : DestinationClock). k.0) a.destination) (ap slot_seen a.slot) turn) to from
+        quietly z (gives W m.to m.from (end_of x) (end_of (drop_token x m).side) apart (cc) (cc) turn) to from
 
     make_token_stage : Stage (make_token x m).side (K ++ departure_by m m.slot (make_token x m).acted (make_token x m).quantity)
     make_token_stage =
         let a = (token_made_lem x m).0 in
         let turn = make_token_turns ours.destination ours.slot x m.slot out_stands out_shows in
         rw (departure_entries m m.slot (make_token x m).acted (make_token x m).quantity) at
-        (next z (gives W m.to m.from (end_of x) (end_of (make_token x m).side) apart (ap (λ (k : DestinationClock). k.0) a.destination) (ap slot_seen a.slot) turn) to from)
+        (next z (gives W m.to m.from (end_of x) (end_of (make_token x m).side) apart (cc) (cc) turn) to from)
 
   -- all five
-  pub taken_stage : (x : Side) → Stage x [] → let r = five_rules x m in Stage r.side (entries_by (One m) r.result r.report)
+  pub taken_stage : (x : Side) → Stage x [] → let r = five_rules x m in Stage r.side (entries_by (Some m) r.result r.report)
   unfolding five_rules
   taken_stage x z =
       let one = (fill x m).side in

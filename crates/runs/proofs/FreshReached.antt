@@ -1,22 +1,22 @@
 -- A run starts at a fresh table, which has nothing: no passes, no slot, no token, no message.
 -- Assumes nothing.
+use Rattle.std.proofs.Common.{Some, None}
 use Prim.Native.Nat.{ℕ, zero, suc, ◌<◌}
-use mathlib.Core.Path.{◌≡◌, refl, sym, ◌∙◌, ap}
+use mathlib.Core.Path.{◌≡◌, refl, ap}
 use mathlib.Core.Bool.{true}
 use mathlib.Core.List.{[]}
 use native.Mathlib.Omega.{arith}
+use Rattle.rules.specs.declared.held.Token.{Token}
+use Rattle.rules.specs.declared.held.Slot.{Slot}
 use lib.ListN.{get_or, replicate}
 use Rattle.handshake.specs.History.{departed, arrived}
 use Rattle.ground.proofs.Sums.{sum_nothing, pairs_nothing}
 use Rattle.handshake.proofs.Webs.{fresh_web}
-use Rattle.station.specs.Held.{no_slot, no_token, slot_for, token_for}
+use Rattle.station.specs.Held.{slot_for, token_for}
 use Rattle.ground.specs.Limits.{most_stations}
 use Rattle.station.specs.Sound.{count_sound}
 use Rattle.station.specs.Steps.{blank}
-use Rattle.rules.specs.declared.held.HeldSlot.TheVariants.{NoSlot}
-use Rattle.rules.specs.declared.held.HeldToken.TheVariants.{NoToken}
-use Rattle.station.specs.declared.held.SlotCell.{SlotCell}
-use Rattle.station.specs.declared.held.TokenCell.{TokenCell}
+use Rattle.station.specs.declared.held.PeerCell.{PeerCell}
 use Rattle.rules.specs.declared.message.Message.{Message}
 use Rattle.station.specs.declared.station.Station.{Station}
 use Rattle.ground.proofs.Stores.{stored}
@@ -26,7 +26,6 @@ use Rattle.table.specs.Table.{station_at, waiting_at}
 use Rattle.table.specs.Way.{between, on_the_way}
 use Rattle.table.specs.Sound.{table_sound}
 use Rattle.pool.specs.declared.places.Place.{Place}
-use Rattle.pool.specs.declared.places.Waiting.TheVariants.{Empty, One}
 use Rattle.table.proofs.FreshSound.{length_seats, seat_at, fresh_table_sound}
 use Rattle.table.proofs.Tables.{table_parts}
 use Rattle.runs.proofs.Full.{FullStation}
@@ -34,11 +33,6 @@ use Rattle.runs.proofs.Reached.{Reached}
 use Rattle.runs.proofs.Seen.{slot_seen, token_seen}
 
 -- what is everywhere the same
-all_same : {A : Type 0} (n i : ℕ) (a : A) → get_or (replicate n a) i a ≡ a
-all_same zero i a = refl
-all_same (suc n) zero a = refl
-all_same (suc n) (suc i) a = all_same n i a
-
 everywhere : {A : Type 0} (P : A → Type 0) (n i : ℕ) {a d : A} → P a → P d → P (get_or (replicate n a) i d)
 everywhere P zero i p q = q
 everywhere P (suc n) zero p q = p
@@ -48,16 +42,16 @@ everywhere P (suc n) (suc i) p q = everywhere P n i p q
 record Bare (s : Station) : Type 0 where
   pub value : s.value ≡ 0
   pub intake : s.intake ≡ 0
-  pub slot : (k : ℕ) → slot_for s k ≡ NoSlot
-  pub token : (k : ℕ) → token_for s k ≡ NoToken
+  pub slot : (k : ℕ) → slot_for s k ≡ None
+  pub token : (k : ℕ) → token_for s k ≡ None
 
 blank_bare : (number count : ℕ) → Bare (blank number count)
 blank_bare number count =
     record {
       value = refl;
       intake = refl;
-      slot = λ k. ap (λ (c : SlotCell). c.held) (all_same most_stations k no_slot);
-      token = λ k. ap (λ (c : TokenCell). c.held) (all_same most_stations k no_token);
+      slot = λ k. everywhere (λ (c : PeerCell Slot). c.held ≡ None) most_stations k refl refl;
+      token = λ k. everywhere (λ (c : PeerCell Token). c.held ≡ None) most_stations k refl refl;
     }
 
 seats_bare : (count n k : ℕ) {d : Station} → Bare d → Bare (get_or (seats_to count n) k d)
@@ -79,11 +73,8 @@ module _ (count : ℕ) (sound : count_sound count ≡ true) where
   nothing_on_the_way : on_the_way (blank_table count) ≡ 0
   nothing_on_the_way = pairs_nothing (between (blank_table count)) count (λ g r _ _. rw ((bare g).token r))
 
-  nothing_waits : (p : ℕ) (m : Message) → waiting_at (blank_table count) p ≡ One m → ⊥
-  nothing_waits p m e =
-      let f : Empty ≡ One m = sym (ap (λ (x : Place). x.waiting) (all_same most_places p (record { waiting = Empty }))) ∙ e in
-      let z : ◌≡◌ {A = ℕ} 0 1 = cc in
-      omega arith
+  nothing_waits : (p : ℕ) (m : Message) → waiting_at (blank_table count) p ≡ Some m → ⊥
+  nothing_waits p m e = everywhere (λ (x : Place). x.waiting ≡ Some m → ⊥) most_places p {a = record { waiting = None }} (λ f. cc) (λ f. cc) e
 
   pub fresh_reached : Reached (fresh_table_of count).table [] 0 0
   unfolding fresh_table_of departed arrived

@@ -1,7 +1,9 @@
 -- The lists of a run's table keep their lengths: 16 stations, 64 places, and at each station 16
 -- slots and 16 tokens. Assumes nothing.
+use Rattle.std.proofs.Common.{Option}
 use Prim.Native.Nat.{ℕ, ◌<◌}
 use mathlib.Core.Path.{◌≡◌, ◌∙◌}
+use Rattle.rules.specs.declared.message.Message.{Message}
 use lib.ListN.{length, length-set}
 use Rattle.ground.specs.Limits.{most_stations}
 use Rattle.station.specs.Side.{put_side}
@@ -11,7 +13,6 @@ use Rattle.station.specs.declared.station.Station.{Station}
 use Rattle.ground.proofs.Stores.{stored}
 use Rattle.pool.specs.Pool.{most_places}
 use Rattle.table.specs.Table.{station_at, put_station, put_place}
-use Rattle.pool.specs.declared.places.Waiting.{Waiting}
 use Rattle.table.specs.declared.table.Table.{Table}
 
 pub record FullStation (s : Station) : Type 0 where
@@ -41,5 +42,5 @@ station_full {t} k {s} f g =
       each = λ j h. stored FullStation t.stations k j _ (λ e. g) (f.each j h);
     }
 
-pub place_full : {t : Table} (p : ℕ) (w : Waiting) → Full t → Full (put_place t p w)
+pub place_full : {t : Table} (p : ℕ) (w : Option Message) → Full t → Full (put_place t p w)
 place_full {t} p w f = record { stations = f.stations; pool = length-set t.pool p (record { waiting = w }) ∙ f.pool; each = f.each }

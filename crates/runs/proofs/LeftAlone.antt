@@ -1,19 +1,18 @@
 -- What each rule leaves alone, and what it does to the value. Assumes nothing.
+use Rattle.std.proofs.Common.{Option, Some, None}
 use Prim.Native.Nat.{ℕ, ◌+◌}
 use mathlib.Core.Path.{◌≡◌, refl, sym, ◌∙◌}
 use mathlib.Core.Bool.{◌&&◌}
 use native.Mathlib.Omega.{arith}
 use native.Mathlib.Nat.{add-zero}
+use Rattle.rules.specs.declared.held.Token.{Token}
+use Rattle.rules.specs.declared.held.Slot.{Slot}
 use lib.Dec.{eqb, ltb, leb}
 use Rattle.rules.specs.Half.{half_above}
 use Rattle.ground.specs.Limits.{last_clock}
 use Rattle.rules.specs.Rules.{agree, fill_by, drop_slot_by, open_slot_by, destination_shown, drop_token_by, make_token_by, fill, drop_slot, open_slot, drop_token, make_token}
 use Rattle.rules.specs.Taking.{five_rules}
 use Rattle.ground.specs.declared.clocks.DestinationClock.{DestinationClock}
-use Rattle.rules.specs.declared.held.HeldSlot.{HeldSlot}
-use Rattle.rules.specs.declared.held.HeldSlot.TheVariants.{NoSlot, OneSlot}
-use Rattle.rules.specs.declared.held.HeldToken.{HeldToken}
-use Rattle.rules.specs.declared.held.HeldToken.TheVariants.{NoToken, OneToken}
 use Rattle.rules.specs.declared.message.Message.{Message}
 use Rattle.rules.specs.declared.rules.Ruled.{Ruled}
 use Rattle.rules.specs.declared.side.Side.{Side}
@@ -47,27 +46,27 @@ took = record { source = refl; token = refl }
 gave : {x : Side} → Gives x x
 gave = record { destination = refl; slot = refl }
 
-fill_by_lem : (x : Side) (m : HeldToken) (h : HeldSlot) → Filled x (fill_by x m h)
-fill_by_lem x NoToken h = (took, sym (add-zero x.value))
-fill_by_lem x (OneToken t) NoSlot = (took, sym (add-zero x.value))
-fill_by_lem x (OneToken t) (OneSlot l) = chosen (Filled x) (agree t l) _ _ (λ e. (record { source = refl; token = refl }, refl)) (λ e. (took, sym (add-zero x.value)))
+fill_by_lem : (x : Side) (m : Option Token) (h : Option Slot) → Filled x (fill_by x m h)
+fill_by_lem x None h = (took, sym (add-zero x.value))
+fill_by_lem x (Some t) None = (took, sym (add-zero x.value))
+fill_by_lem x (Some t) (Some l) = chosen (Filled x) (agree t l) _ _ (λ e. (record { source = refl; token = refl }, refl)) (λ e. (took, sym (add-zero x.value)))
 
-drop_slot_by_lem : (x : Side) (m : Message) (h : HeldSlot) → Took x (drop_slot_by x m h)
-drop_slot_by_lem x m NoSlot = (took, refl)
-drop_slot_by_lem x m (OneSlot l) = chosen (Took x) (ltb l.source.0 m.source.0) _ _ (λ e. (record { source = refl; token = refl }, refl)) (λ e. (took, refl))
+drop_slot_by_lem : (x : Side) (m : Message) (h : Option Slot) → Took x (drop_slot_by x m h)
+drop_slot_by_lem x m None = (took, refl)
+drop_slot_by_lem x m (Some l) = chosen (Took x) (ltb l.source.0 m.source.0) _ _ (λ e. (record { source = refl; token = refl }, refl)) (λ e. (took, refl))
 
-open_slot_by_lem : (x : Side) (m : Message) (q : ℕ) (h : HeldSlot) → Took x (open_slot_by x m q h)
-open_slot_by_lem x m q (OneSlot l) = (took, refl)
-open_slot_by_lem x m q NoSlot = chosen (Took x) (leb 1 q && ltb x.destination.0 last_clock) _ _ (λ e. (record { source = refl; token = refl }, refl)) (λ e. (took, refl))
+open_slot_by_lem : (x : Side) (m : Message) (q : ℕ) (h : Option Slot) → Took x (open_slot_by x m q h)
+open_slot_by_lem x m q (Some l) = (took, refl)
+open_slot_by_lem x m q None = chosen (Took x) (leb 1 q && ltb x.destination.0 last_clock) _ _ (λ e. (record { source = refl; token = refl }, refl)) (λ e. (took, refl))
 
-drop_token_by_lem : (x : Side) (shown : DestinationClock) (h : HeldToken) → Dropped x (drop_token_by x shown h)
-drop_token_by_lem x shown NoToken = (gave, refl)
-drop_token_by_lem x shown (OneToken t) =
+drop_token_by_lem : (x : Side) (shown : DestinationClock) (h : Option Token) → Dropped x (drop_token_by x shown h)
+drop_token_by_lem x shown None = (gave, refl)
+drop_token_by_lem x shown (Some t) =
     chosen (Dropped x) (ltb t.destination.0 shown.0) _ _ (λ e. (record { destination = refl; slot = refl }, refl)) (λ e. (gave, refl))
 
-make_token_by_lem : (x : Side) (h : HeldSlot) → Made x (make_token_by x h)
-make_token_by_lem x NoSlot = (gave, add-zero x.value)
-make_token_by_lem x (OneSlot l) =
+make_token_by_lem : (x : Side) (h : Option Slot) → Made x (make_token_by x h)
+make_token_by_lem x None = (gave, add-zero x.value)
+make_token_by_lem x (Some l) =
     chosen (Made x) (eqb l.source.0 x.source.0 && ltb x.source.0 last_clock) _ _ (λ e. (record { destination = refl; slot = refl }, omega arith))
     (λ e. (gave, add-zero x.value))
 

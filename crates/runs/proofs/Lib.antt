@@ -14,6 +14,7 @@ pub mod DeliverStep
 pub mod FreshReached
 pub mod AnyBuild
 pub mod Demand3
+pub mod WrittenOut
 pub mod WorkedRun
 pub mod Teeth
 pub mod RightParts

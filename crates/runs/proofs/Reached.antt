@@ -1,11 +1,14 @@
 -- What holds of every table that a run reaches, and what a step has to show to keep it. Assumes
 -- nothing.
+use Rattle.std.proofs.Common.{Option, Some, None}
 use Prim.Native.Nat.{ℕ, ◌+◌, ◌<◌, ◌≤◌}
 use mathlib.Core.Path.{◌≡◌, refl, ◌∙◌, ap}
 use mathlib.Core.Bool.{true}
 use mathlib.Core.List.{List, ◌++◌}
 use mathlib.Core.Logic.{◌⊎◌}
 use native.Mathlib.Omega.{arith}
+use Rattle.rules.specs.declared.held.Token.{Token}
+use Rattle.rules.specs.declared.held.Slot.{Slot}
 use lib.ListN.{length}
 use Rattle.ground.specs.Sums.{sum_below}
 use Rattle.handshake.specs.History.{Entry, departed, arrived}
@@ -16,16 +19,11 @@ use Rattle.ground.proofs.Sums.{sum_one, sum_most, pairs_same}
 use Rattle.handshake.proofs.Webs.{waits_keep}
 use Rattle.station.specs.Held.{slot_for, token_for}
 use Rattle.ground.specs.Limits.{most_intake, most_value}
-use Rattle.rules.specs.declared.held.HeldSlot.{HeldSlot}
-use Rattle.rules.specs.declared.held.HeldSlot.TheVariants.{NoSlot, OneSlot}
-use Rattle.rules.specs.declared.held.HeldToken.{HeldToken}
-use Rattle.rules.specs.declared.held.HeldToken.TheVariants.{NoToken, OneToken}
 use Rattle.rules.specs.declared.message.Message.{Message}
 use Rattle.station.specs.declared.station.Station.{Station}
 use Rattle.table.specs.Sound.{table_sound}
 use Rattle.table.specs.Table.{station_at, waiting_at, put_station}
 use Rattle.table.specs.Way.{travels, between, on_the_way, at_stations}
-use Rattle.pool.specs.declared.places.Waiting.TheVariants.{One}
 use Rattle.table.specs.declared.table.Table.{Table}
 use Rattle.table.proofs.Sums.{station_sound_lem}
 use Rattle.table.proofs.Tables.{table_parts}
@@ -36,7 +34,7 @@ use Rattle.runs.proofs.Put.{seat_here, seat_else}
 
 -- the letters of the messages that wait in a table
 abbrev pub waits_in : Table → Letter ℕ ℕ → Type 0
-waits_in t l = (p : ℕ) × (m : Message) × (waiting_at t p ≡ One m) × (letter_of m ≡ l)
+waits_in t l = (p : ℕ) × (m : Message) × (waiting_at t p ≡ Some m) × (letter_of m ≡ l)
 
 -- all that the stations of a table took in
 abbrev pub intake_of : Table → ℕ
@@ -64,10 +62,10 @@ pub record Goes (t t' : Table) (H K : List (Entry ℕ)) (p q : ℕ) : Type 0 whe
 pub way_seen : (t : Table) → on_the_way t ≡ on_all_ways amount (web_of t) t.count
 way_seen t = pairs_same (between t) _ t.count (λ g r _ _. seen (token_for (station_at t g) r) (slot_for (station_at t r) g))
   where
-    seen : (h : HeldToken) (l : HeldSlot) → travels h l ≡ weigh amount (token_seen h) (slot_seen l)
-    seen NoToken l = refl
-    seen (OneToken t) NoSlot = refl
-    seen (OneToken t) (OneSlot l) = refl
+    seen : (h : Option Token) (l : Option Slot) → travels h l ≡ weigh amount (token_seen h) (slot_seen l)
+    seen None l = refl
+    seen (Some t) None = refl
+    seen (Some t) (Some l) = refl
 
 pub goes_on : {t t' : Table} {H K : List (Entry ℕ)} {plus minus p q : ℕ} → Reached t H plus minus → Goes t t' H K p q → table_sound t' ≡ true
     → Reached t' (H ++ K) (plus + p) (minus + q)

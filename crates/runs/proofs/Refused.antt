@@ -1,22 +1,19 @@
 -- What a step comes to in a run; a refusal changes and reports nothing. Assumes nothing.
+use Rattle.std.proofs.Common.{Option, Some, None}
 use Prim.Native.Nat.{ℕ, zero, suc}
 use mathlib.Core.Path.{◌≡◌, refl}
-use mathlib.Core.Bool.{Bool, true, false, cond, ◌||◌, true≢false, or-true}
+use mathlib.Core.Bool.{false}
 use mathlib.Core.List.{List, [], ◌++◌}
 use mathlib.Core.Logic.{◌≢◌}
 use native.Mathlib.Omega.{arith}
-use lib.Dec.{eqb}
-use borrow.Author.Tests.{eq-eqb, ne_eqb}
+use Rattle.rules.specs.declared.message.Message.{Message}
+use Rattle.rules.specs.declared.held.Token.{Token}
+use Rattle.rules.specs.declared.held.Slot.{Slot}
+use borrow.Author.Tests.{ne_eqb}
 use Rattle.handshake.specs.History.{Entry}
-use Rattle.ground.specs.Answers.{not_sound, value_limit}
+use Rattle.ground.specs.Answers.{done, not_sound, value_limit}
 use Rattle.rules.specs.Report.{no_report}
-use Rattle.rules.specs.declared.held.HeldSlot.{HeldSlot}
-use Rattle.rules.specs.declared.held.HeldSlot.TheVariants.{NoSlot, OneSlot}
-use Rattle.rules.specs.declared.held.HeldToken.{HeldToken}
-use Rattle.rules.specs.declared.held.HeldToken.TheVariants.{NoToken, OneToken}
 use Rattle.table.specs.Stepped.{answered_step}
-use Rattle.pool.specs.declared.places.Waiting.{Waiting}
-use Rattle.pool.specs.declared.places.Waiting.TheVariants.{Empty, One}
 use Rattle.steps.specs.declared.asked.Step.{Step}
 use Rattle.steps.specs.declared.asked.Step.TheVariants.{Add, Draw, Send, Deliver, Lose}
 use Rattle.table.specs.declared.stepped.Stepped.{Stepped}
@@ -35,15 +32,15 @@ pub record StepGoes (t : Table) (step : Step) (H : List (Entry ℕ)) (s : Steppe
   pub answer : Plain s.answer
 
 -- a refusal makes no entry, adds nothing and draws nothing
-no_entries : (v : Waiting) → entries_by v 0 no_report ≡ []
-no_entries Empty = refl
-no_entries (One m) = both m.token m.slot
+no_entries : (v : Option Message) → entries_by v 0 no_report ≡ []
+no_entries None = refl
+no_entries (Some m) = both m.token m.slot
   where
-    both : (h : HeldToken) (l : HeldSlot) → (arrival_by m h false 0 ++ departure_by m l false 0) ≡ []
-    both NoToken NoSlot = refl
-    both NoToken (OneSlot l) = refl
-    both (OneToken t) NoSlot = refl
-    both (OneToken t) (OneSlot l) = refl
+    both : (h : Option Token) (l : Option Slot) → (arrival_by m h false 0 ++ departure_by m l false 0) ≡ []
+    both None None = refl
+    both None (Some l) = refl
+    both (Some t) None = refl
+    both (Some t) (Some l) = refl
 
 adds_nothing : (step : Step) (n : ℕ) → amount_added step (suc n) ≡ 0
 adds_nothing (Add k amount) n = rw (ne_eqb (suc n) 0 (λ e. omega arith))
@@ -59,14 +56,8 @@ draws_nothing (Send from to) = refl
 draws_nothing (Deliver p) = refl
 draws_nothing (Lose p) = refl
 
--- the first refusal that applies is plain, or a later one is
-pub plain_first : (b : Bool) (n later : ℕ) → Plain n → (b ≡ false → Plain later) → Plain (cond b n later)
-plain_first true n later p q = p
-plain_first false n later p q = q refl
-
--- each number but 1 and 10
-pub plain : (n : ℕ) → (eqb n not_sound || eqb n value_limit) ≡ false → Plain n
-plain n e = (λ f. true≢false (rw (eq-eqb n not_sound f) at e), λ f. true≢false (rw (eq-eqb n value_limit f, or-true) at e))
+pub done_plain : Plain done
+done_plain = (omega arith, omega arith)
 
 module _ {t : Table} {H : List (Entry ℕ)} {plus minus : ℕ} (r : Reached t H plus minus) where
   -- a step that is refused, or done

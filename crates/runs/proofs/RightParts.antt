@@ -1,39 +1,35 @@
 -- The right parts make the right build, so that a broken build differs from it in its wrong part
 -- only (and the unasked one in that it does not ask); and after the steps that show the broken
 -- builds the right build has every pass. Assumes nothing.
+use Rattle.std.proofs.Common.{Option, Some, None}
 use Prim.Native.Nat.{ℕ, ◌+◌}
 use mathlib.Core.Path.{◌≡◌, refl}
 use mathlib.Core.Bool.{Bool, true, false, cond, not}
 use mathlib.Core.List.{List, [], ◌∷◌, map}
+use Rattle.rules.specs.declared.message.Message.{Message}
 use lib.Dec.{ltb}
 use Rattle.handshake.specs.History.{departure, transfer}
-use Rattle.ground.specs.Sums.{sum_below}
-use Rattle.ground.specs.Below.{all_below}
-use Rattle.station.specs.Sound.{station_sound, message_sound}
 use Rattle.rules.specs.Stock.{amount_sound}
 use Rattle.rules.specs.Taking.{five_rules}
-use Rattle.station.specs.Steps.{add_of, draw_of, show_of, receive_of}
-use Rattle.pool.specs.declared.places.Waiting.{Waiting}
-use Rattle.pool.specs.declared.places.Waiting.TheVariants.{Empty, One}
 use Rattle.steps.specs.declared.asked.Step.{Step}
 use Rattle.steps.specs.declared.asked.Step.TheVariants.{Add, Draw, Send, Deliver, Lose}
 use Rattle.table.specs.declared.stepped.Stepped.{Stepped}
 use Rattle.table.specs.declared.table.Table.{Table}
-use Rattle.ground.specs.First.{first_from}
 use Rattle.table.specs.Table.{station_at, waiting_at}
 use Rattle.table.specs.Sound.{table_sound}
-use Rattle.table.specs.Fresh.{seats_to, fresh_table_of}
+use Rattle.table.specs.Fresh.{fresh_table_of}
 use Rattle.table.specs.Stepped.{answered_step}
 use Rattle.steps.specs.Steps.{deliver_step, step_done, step_of}
 use Rattle.table.specs.Way.{at_stations, on_the_way}
 use Rattle.runs.specs.Runs.{log_of, table_after, all_added, all_drawn, history_of, amounting}
 use Rattle.runs.specs.Builds.{right_taking, right_drawing, delivered_by, built_with, delivers_by, delivers_unasked, draws_by, draws_few_by, told_few, right_few}
 use Rattle.runs.specs.Broken.{old_token, slot_again, token_comes, token_of_nothing, nothing_again, part_drawn, overdrawn}
+use Rattle.runs.proofs.WrittenOut.{written_out}
 
-pub delivers_right : (t : Table) (w : Waiting) → delivered_by right_taking t w ≡ deliver_step t w
+pub delivers_right : (t : Table) (w : Option Message) → delivered_by right_taking t w ≡ deliver_step t w
 unfolding five_rules
-delivers_right t Empty = refl
-delivers_right t (One m) = refl
+delivers_right t None = refl
+delivers_right t (Some m) = refl
 
 pub right_taking_lem : (t : Table) (step : Step) → delivers_by right_taking t step ≡ step_of t step
 unfolding built_with step_of
@@ -74,18 +70,18 @@ balance_of steps =
 
 pub right_balances : map balance_of (old_token ∷ slot_again ∷ token_comes ∷ nothing_again ∷ part_drawn ∷ overdrawn ∷ [])
     ≡ (10 ∷ 10 ∷ []) ∷ (10 ∷ 10 ∷ []) ∷ (10 ∷ 10 ∷ []) ∷ (10 ∷ 10 ∷ []) ∷ (10 ∷ 10 ∷ []) ∷ (10 ∷ 10 ∷ []) ∷ []
-unfolding add_of draw_of show_of receive_of five_rules station_sound message_sound all_below first_from table_sound seats_to fresh_table_of step_of sum_below log_of table_after all_added all_drawn
+unfolding written_out
 right_balances = refl
 
 -- the token of 0 departs once, also where no soundness is asked, and leaves a sound table
 pub right_departs_once : history_of (log_of step_of (fresh_table_of 2).table nothing_again) ≡ departure (transfer 0 1 (amounting 0 0 0)) ∷ []
-unfolding add_of draw_of show_of receive_of five_rules station_sound message_sound all_below first_from table_sound seats_to fresh_table_of step_of log_of history_of
+unfolding written_out
 right_departs_once = refl
 
 pub right_departs_once_unasked : history_of (log_of (delivers_unasked right_taking) (fresh_table_of 2).table nothing_again) ≡ departure (transfer 0 1 (amounting 0 0 0)) ∷ []
-unfolding add_of draw_of show_of station_sound message_sound all_below first_from table_sound seats_to fresh_table_of built_with log_of history_of
+unfolding written_out
 right_departs_once_unasked = refl
 
 pub right_sound : table_sound (table_after step_of (fresh_table_of 2).table token_of_nothing) ≡ true
-unfolding add_of draw_of show_of receive_of five_rules station_sound message_sound all_below first_from table_sound seats_to fresh_table_of step_of table_after
+unfolding written_out
 right_sound = refl

@@ -1,15 +1,13 @@
 -- What the theory of the handshake sees of a table: of a slot, a token, a side, a message, and of
 -- all stations. Assumes nothing.
+use Rattle.std.proofs.Common.{Option, Some, None, option_map}
 use Prim.Native.Nat.{ℕ}
 use mathlib.Core.Bool.{Bool, true, false}
-use mathlib.Core.Option.{Option, none, some}
+use Rattle.rules.specs.declared.held.Token.{Token}
+use Rattle.rules.specs.declared.held.Slot.{Slot}
 use Rattle.handshake.specs.Channel.{Held, Channel, Event, quiet, departs, arrives}
 use Rattle.handshake.specs.Web.{Web, End, Letter}
 use Rattle.station.specs.Held.{slot_for, token_for}
-use Rattle.rules.specs.declared.held.HeldSlot.{HeldSlot}
-use Rattle.rules.specs.declared.held.HeldSlot.TheVariants.{NoSlot, OneSlot}
-use Rattle.rules.specs.declared.held.HeldToken.{HeldToken}
-use Rattle.rules.specs.declared.held.HeldToken.TheVariants.{NoToken, OneToken}
 use Rattle.rules.specs.declared.message.Message.{Message}
 use Rattle.rules.specs.declared.side.Side.{Side}
 use Rattle.station.specs.declared.station.Station.{Station}
@@ -17,13 +15,11 @@ use Rattle.table.specs.Table.{station_at}
 use Rattle.table.specs.declared.table.Table.{Table}
 use Rattle.runs.specs.Runs.{amounting}
 
-abbrev pub slot_seen : HeldSlot → Option (Held ℕ)
-slot_seen NoSlot = none
-slot_seen (OneSlot l) = some (amounting l.source.0 l.destination.0 l.quantity)
+abbrev pub slot_seen : Option Slot → Option (Held ℕ)
+slot_seen = option_map (λ l. amounting l.source.0 l.destination.0 l.quantity)
 
-abbrev pub token_seen : HeldToken → Option (Held ℕ)
-token_seen NoToken = none
-token_seen (OneToken t) = some (amounting t.source.0 t.destination.0 t.quantity)
+abbrev pub token_seen : Option Token → Option (Held ℕ)
+token_seen = option_map (λ t. amounting t.source.0 t.destination.0 t.quantity)
 
 -- the channel from each station to each other
 abbrev pub channel_of : Station → Station → ℕ → ℕ → Channel ℕ ℕ
@@ -61,12 +57,12 @@ abbrev pub outward : Side → ℕ → Option (Held ℕ) → Channel ℕ ℕ
 outward x destination slot = record { source = x.source.0; destination = destination; token = token_seen x.token; slot = slot }
 
 -- what a fill, and a token made, are to the channel
-abbrev pub arrives_by : HeldToken → Bool → ℕ → Event ℕ
-arrives_by (OneToken t) true amount = arrives (amounting t.source.0 t.destination.0 amount)
-arrives_by (OneToken t) false amount = quiet
-arrives_by NoToken acted amount = quiet
+abbrev pub arrives_by : Option Token → Bool → ℕ → Event ℕ
+arrives_by (Some t) true amount = arrives (amounting t.source.0 t.destination.0 amount)
+arrives_by (Some t) false amount = quiet
+arrives_by None acted amount = quiet
 
-abbrev pub departs_by : HeldSlot → Bool → ℕ → Event ℕ
-departs_by (OneSlot l) true amount = departs (amounting l.source.0 l.destination.0 amount)
-departs_by (OneSlot l) false amount = quiet
-departs_by NoSlot acted amount = quiet
+abbrev pub departs_by : Option Slot → Bool → ℕ → Event ℕ
+departs_by (Some l) true amount = departs (amounting l.source.0 l.destination.0 amount)
+departs_by (Some l) false amount = quiet
+departs_by None acted amount = quiet

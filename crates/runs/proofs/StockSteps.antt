@@ -1,22 +1,17 @@
 -- Adding and drawing: what may be added has room, and what is drawn was there. Assumes nothing.
+use Rattle.std.proofs.lemmas.Bool.Decides.{nat_tests}
 use Prim.Native.Nat.{ℕ, ◌+◌, ◌-◌, ◌<◌, ◌≤◌}
-use mathlib.Core.Path.{◌≡◌, refl}
-use mathlib.Core.Bool.{false, cond, not}
+use mathlib.Core.Path.{refl}
 use mathlib.Core.List.{List}
 use native.Mathlib.Omega.{arith}
-use lib.Dec.{ltb}
-use borrow.Author.Tests.{ltb-true, ltb-false, le-ltb, not-false}
 use Rattle.handshake.specs.History.{Entry}
 use Rattle.ground.proofs.Sums.{sum_most, sum_term}
 use Rattle.ground.specs.Limits.{most_intake, most_value}
 use Rattle.ground.specs.Refusals.{answer_of}
-use Rattle.rules.specs.Stock.{amount_sound}
-use Rattle.ground.proofs.Refusing.{passed}
 use Rattle.ground.proofs.Stores.{stored}
 use Rattle.station.specs.declared.station.Station.{Station}
 use Rattle.station.specs.Steps.{put_stock}
 use Rattle.table.specs.Table.{station_at, put_station}
-use Rattle.table.specs.Sound.{table_sound}
 use Rattle.steps.specs.Steps.{draw_step, step_refusals, step_done, step_of}
 use Rattle.steps.specs.declared.asked.Step.TheVariants.{Add, Draw}
 use Rattle.table.specs.declared.table.Table.{Table}
@@ -24,7 +19,7 @@ use Rattle.table.proofs.Sums.{station_sound_lem}
 use Rattle.table.proofs.Tables.{table_parts}
 use Rattle.runs.proofs.Reached.{Reached}
 use Rattle.runs.proofs.Changes.{stock_goes}
-use Rattle.runs.proofs.Refused.{StepGoes, plain_first, plain, by_answer}
+use Rattle.runs.proofs.Refused.{StepGoes, done_plain, by_answer}
 
 module _ {t : Table} {H : List (Entry ℕ)} {plus minus : ℕ} (r : Reached t H plus minus) where
   -- there is room for what may be added: no station took in more than its limit
@@ -37,41 +32,26 @@ module _ {t : Table} {H : List (Entry ℕ)} {plus minus : ℕ} (r : Reached t H 
       let mine = sum_term (λ a. (station_at t a).value) t.count k h in
       omega (arith, r.passes, r.intakes, (table_parts t r.sound).most)
 
-  -- a station that is not refused is one of the table
-  below : (k : ℕ) → not (ltb k t.count) ≡ false → k < t.count
-  below k e = ltb-true k t.count (not-false _ e)
-
   pub add_goes : (k amount : ℕ) → StepGoes t (Add k amount) H (step_of t (Add k amount))
   unfolding step_of
   add_goes k amount =
       let s = station_at t k in
       by_answer r (Add k amount) (answer_of (step_refusals t (Add k amount))) (step_done t (Add k amount))
-      (rw r.sound
-      (plain_first (not (ltb k t.count)) 2 _ (plain 2 refl)
-      (λ h. plain_first (not (amount_sound amount)) 4 _ (plain 4 refl)
-      (λ e. plain_first (ltb most_intake (s.intake + amount)) 5 (cond (ltb most_value (s.value + amount)) 10 0) (plain 5 refl)
-      (λ i. rw (le-ltb most_value (s.value + amount) (add_fits k amount (below k h) (ltb-false _ _ i))) (plain 0 refl))))))
+      (grind (arith, nat_tests), grind (arith, nat_tests, add_fits k amount))
       (λ z.
-      let one = passed (not (table_sound t)) _ z in
-      let two = passed (not (ltb k t.count)) _ one.1 in
-      record { goes = stock_goes r k (s.value + amount) (s.intake + amount) amount 0 (below k two.0) (omega arith) refl; answer = plain 0 refl })
+      let h : k < t.count = grind (arith, nat_tests) in
+      record { goes = stock_goes r k (s.value + amount) (s.intake + amount) amount 0 h (omega arith) refl; answer = done_plain })
 
   -- a draw that is done took what was there
   pub taken_goes : (k amount taken : ℕ) → k < t.count → taken ≤ (station_at t k).value → StepGoes t (Draw k amount) H (draw_step t k taken (station_at t k))
   taken_goes k amount taken h there =
       let s = station_at t k in
-      record { goes = stock_goes r k (s.value - taken) s.intake 0 taken h (omega (arith, there)) (omega arith); answer = plain 0 refl }
+      record { goes = stock_goes r k (s.value - taken) s.intake 0 taken h (omega (arith, there)) (omega arith); answer = done_plain }
 
   pub draw_goes : (k amount : ℕ) → StepGoes t (Draw k amount) H (step_of t (Draw k amount))
   unfolding step_of
   draw_goes k amount =
       let s = station_at t k in
       by_answer r (Draw k amount) (answer_of (step_refusals t (Draw k amount))) (step_done t (Draw k amount))
-      (rw r.sound
-      (plain_first (not (ltb k t.count)) 2 _ (plain 2 refl)
-      (λ h. plain_first (not (amount_sound amount)) 4 _ (plain 4 refl) (λ e. plain_first (ltb s.value amount) 15 0 (plain 15 refl) (λ l. plain 0 refl)))))
-      (λ z.
-      let one = passed (not (table_sound t)) _ z in
-      let two = passed (not (ltb k t.count)) _ one.1 in
-      let three = passed (not (amount_sound amount)) _ two.1 in
-      taken_goes k amount amount (below k two.0) (ltb-false _ _ (passed (ltb s.value amount) _ three.1).0))
+      (grind (arith, nat_tests), grind (arith, nat_tests))
+      (λ z. taken_goes k amount amount (grind (arith, nat_tests)) (grind (arith, nat_tests)))

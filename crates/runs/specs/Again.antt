@@ -1,10 +1,8 @@
 -- A message delivered a second time that still has something to do, and what a build would tell
 -- that only nods at it.
-use Rattle.std.specs.Prelude.{ℕ, true, false, List, [], ◌∷◌, ◌++◌}
+use Rattle.std.specs.Prelude.{ℕ, true, false, List, [], ◌∷◌, ◌++◌, None}
 use Rattle.ground.specs.Answers.{done}
 use Rattle.rules.specs.Report.{no_report}
-use Rattle.rules.specs.declared.held.HeldSlot.TheVariants.{NoSlot}
-use Rattle.rules.specs.declared.held.HeldToken.TheVariants.{NoToken}
 use Rattle.rules.specs.declared.message.Message.{Message}
 use Rattle.rules.specs.declared.report.Report.{Report}
 use Rattle.table.specs.Fresh.{fresh_table_of}
@@ -17,7 +15,7 @@ use Rattle.runs.specs.Runs.{table_after}
 
 -- what station 0 shows station 1 of its 10 passes
 abbrev pub ten_shown : Message
-ten_shown = record { from = 0; to = 1; value = 10; source = record { 0 = 0 }; destination = record { 0 = 0 }; slot = NoSlot; token = NoToken }
+ten_shown = record { from = 0; to = 1; value = 10; source = record { 0 = 0 }; destination = record { 0 = 0 }; slot = None; token = None }
 
 -- this message waits at place 0; it is delivered and opens a slot of 5, a token of 5 is made for
 -- that slot and lands in it

@@ -2,12 +2,9 @@
 -- are not among them, and demand 2 rules them out: rule 3 with i's value from before the fill,
 -- which asks for too much, and a draw of what is there where more is asked, which is
 -- `what_is_there`.)
-use Rattle.std.specs.Prelude.{ℕ, zero, suc, ◌+◌, ◌-◌, min, cond, ◌&&◌, List, [], ◌∷◌, ◌++◌, eqb, ltb}
+use Rattle.std.specs.Prelude.{ℕ, zero, suc, ◌+◌, ◌-◌, min, cond, ◌&&◌, List, [], ◌∷◌, ◌++◌, eqb, ltb, Option, Some, None}
+use Rattle.rules.specs.declared.held.Token.{Token}
 use Rattle.rules.specs.declared.held.Slot.{Slot}
-use Rattle.rules.specs.declared.held.HeldSlot.{HeldSlot}
-use Rattle.rules.specs.declared.held.HeldSlot.TheVariants.{NoSlot, OneSlot}
-use Rattle.rules.specs.declared.held.HeldToken.{HeldToken}
-use Rattle.rules.specs.declared.held.HeldToken.TheVariants.{NoToken, OneToken}
 use Rattle.rules.specs.declared.side.Side.{Side}
 use Rattle.rules.specs.declared.rules.Ruled.{Ruled}
 use Rattle.ground.specs.Limits.{last_clock}
@@ -29,11 +26,11 @@ abbrev pub slot_shown : List Step
 slot_shown = Add 0 10 ∷ Send 0 1 ∷ Deliver 0 ∷ Send 1 0 ∷ []
 
 -- 1. Fill by one clock: only the source clock is matched.
-abbrev fill_by_one : Side → HeldToken → HeldSlot → Ruled
-fill_by_one x (OneToken t) (OneSlot l) =
-    cond (eqb t.source.0 l.source.0) (acts t.quantity (put_slot (put_value x (x.value + t.quantity)) NoSlot)) (rests x)
-fill_by_one x (OneToken t) NoSlot = rests x
-fill_by_one x NoToken h = rests x
+abbrev fill_by_one : Side → Option Token → Option Slot → Ruled
+fill_by_one x (Some t) (Some l) =
+    cond (eqb t.source.0 l.source.0) (acts t.quantity (put_slot (put_value x (x.value + t.quantity)) None)) (rests x)
+fill_by_one x (Some t) None = rests x
+fill_by_one x None h = rests x
 
 abbrev pub one_clock : Build
 one_clock = delivers_by (takes_by (λ x m. fill_by_one x m.token x.slot) drop_slot open_slot drop_token make_token)
@@ -70,15 +67,15 @@ token_comes = slot_shown ++ (Deliver 1 ∷ Send 0 1 ∷ Deliver 2 ∷ [])
 
 -- 4. The source clock left standing when q is 0.
 abbrev give_standing : Side → Slot → ℕ → Side
-give_standing x l zero = put_token x (OneToken (record { source = l.source; destination = l.destination; quantity = 0 }))
+give_standing x l zero = put_token x (Some (record { source = l.source; destination = l.destination; quantity = 0 }))
 give_standing x l (suc q) = give x l (suc q)
 
-abbrev make_standing : Side → HeldSlot → Ruled
-make_standing x (OneSlot l) =
+abbrev make_standing : Side → Option Slot → Ruled
+make_standing x (Some l) =
     cond (eqb l.source.0 x.source.0 && ltb x.source.0 last_clock)
     (acts (min x.value l.quantity) (give_standing x l (min x.value l.quantity)))
     (rests x)
-make_standing x NoSlot = rests x
+make_standing x None = rests x
 
 abbrev takes_standing : Taking
 takes_standing = takes_by fill drop_slot open_slot drop_token (λ x m. make_standing x m.slot)

@@ -1,10 +1,8 @@
 -- For each clause of demand 3 a build, and steps for which that clause alone is false. (A draw that
 -- tells more than it takes, and a source clock left standing, are among the other broken builds.)
-use Rattle.std.specs.Prelude.{ℕ, ◌+◌, Bool, true, false, cond, ◌||◌, List, [], ◌∷◌, ◌++◌}
-use Rattle.rules.specs.declared.held.HeldSlot.{HeldSlot}
-use Rattle.rules.specs.declared.held.HeldSlot.TheVariants.{NoSlot, OneSlot}
-use Rattle.rules.specs.declared.held.HeldToken.{HeldToken}
-use Rattle.rules.specs.declared.held.HeldToken.TheVariants.{NoToken, OneToken}
+use Rattle.std.specs.Prelude.{ℕ, ◌+◌, Bool, true, false, cond, ◌||◌, List, [], ◌∷◌, ◌++◌, Option, Some, None}
+use Rattle.rules.specs.declared.held.Token.{Token}
+use Rattle.rules.specs.declared.held.Slot.{Slot}
 use Rattle.rules.specs.declared.message.Message.{Message}
 use Rattle.rules.specs.declared.side.Side.{Side}
 use Rattle.rules.specs.declared.rules.Ruled.{Ruled}
@@ -26,14 +24,14 @@ abbrev fills_by : Rule → Build
 fills_by fills = delivers_by (takes_by fills drop_slot open_slot drop_token make_token)
 
 -- what a token that stands for a slot carries, if it stands for that slot
-abbrev stands : HeldToken → HeldSlot → Bool
-stands (OneToken t) (OneSlot l) = agree t l
-stands (OneToken t) NoSlot = false
-stands NoToken h = false
+abbrev stands : Option Token → Option Slot → Bool
+stands (Some t) (Some l) = agree t l
+stands (Some t) None = false
+stands None h = false
 
-abbrev carries : HeldToken → ℕ
-carries (OneToken t) = t.quantity
-carries NoToken = 0
+abbrev carries : Option Token → ℕ
+carries (Some t) = t.quantity
+carries None = 0
 
 -- departed_before: a token made is told of when the slot comes again, and so after the token has
 -- landed
@@ -82,10 +80,10 @@ one_add = Add 0 10 ∷ []
 
 -- stale: a token lands where no slot waits for it. The first delivery drops the slot, the second
 -- fills
-abbrev fill_gone : Side → HeldToken → HeldSlot → Ruled
-fill_gone x (OneToken t) NoSlot = acts t.quantity (put_value x (x.value + t.quantity))
-fill_gone x (OneToken t) (OneSlot l) = rests x
-fill_gone x NoToken h = rests x
+abbrev fill_gone : Side → Option Token → Option Slot → Ruled
+fill_gone x (Some t) None = acts t.quantity (put_value x (x.value + t.quantity))
+fill_gone x (Some t) (Some l) = rests x
+fill_gone x None h = rests x
 
 abbrev pub slot_gone : Build
 slot_gone = fills_by (λ x m. fill_gone x m.token x.slot)

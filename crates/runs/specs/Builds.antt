@@ -1,6 +1,6 @@
 -- Builds put together from given parts, so that one part can be a wrong one. With the right parts
 -- it is the right build.
-use Rattle.std.specs.Prelude.{ℕ, true, cond, not, List, [], ◌∷◌, ltb, eqb}
+use Rattle.std.specs.Prelude.{ℕ, true, cond, not, List, [], ◌∷◌, ltb, eqb, Option, Some, None}
 use Rattle.rules.specs.declared.message.Message.{Message}
 use Rattle.rules.specs.declared.rules.Ruled.{Ruled}
 use Rattle.rules.specs.declared.side.Side.{Side}
@@ -11,8 +11,6 @@ use Rattle.rules.specs.Report.{no_report}
 use Rattle.rules.specs.Rules.{fill, drop_slot, open_slot, drop_token, make_token}
 use Rattle.rules.specs.Taking.{reported}
 use Rattle.station.specs.Side.{side_for, put_side}
-use Rattle.pool.specs.declared.places.Waiting.{Waiting}
-use Rattle.pool.specs.declared.places.Waiting.TheVariants.{Empty, One}
 use Rattle.steps.specs.declared.asked.Step.{Step}
 use Rattle.steps.specs.declared.asked.Step.TheVariants.{Add, Draw, Send, Deliver, Lose}
 use Rattle.table.specs.declared.stepped.Stepped.{Stepped}
@@ -53,9 +51,9 @@ abbrev pub right_drawing : Drawing
 right_drawing t k amount = step_done t (Draw k amount)
 
 -- a delivery by a given taking
-abbrev pub delivered_by : Taking → Table → Waiting → Stepped
-delivered_by takes t Empty = did 0 no_report t
-delivered_by takes t (One m) =
+abbrev pub delivered_by : Taking → Table → Option Message → Stepped
+delivered_by takes t None = did 0 no_report t
+delivered_by takes t (Some m) =
     let s = station_at t m.to in
     let r = takes (side_for s m.from) m in
     did r.result r.report (put_station t m.to (put_side s m.from r.side))

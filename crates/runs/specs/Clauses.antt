@@ -1,11 +1,9 @@
 -- Demand 3 clause by clause: what each says of one run of a build, so that a run can keep all but
 -- one of them.
-use Rattle.std.specs.Prelude.{ℕ, ◌+◌, ◌<◌, ◌≡◌, true, false, List, ◌++◌, ◌≢◌}
-use Rattle.std.proofs.Math.Option.{some}
-use Rattle.handshake.specs.History.{Transfer, Entry, transfer, departure, arrival, at, Belong, departed, arrived}
+use Rattle.std.specs.Prelude.{ℕ, ◌+◌, ◌<◌, ◌≡◌, true, false, List, ◌++◌, ◌≢◌, Some, slice_get}
+use Rattle.handshake.specs.History.{Transfer, Entry, transfer, departure, arrival, Belong, departed, arrived}
 use Rattle.ground.specs.Answers.{not_sound, value_limit}
 use Rattle.station.specs.Held.{slot_for, token_for}
-use Rattle.rules.specs.declared.held.HeldToken.TheVariants.{OneToken}
 use Rattle.rules.specs.declared.held.Token.{Token}
 use Rattle.table.specs.Sound.{table_sound}
 use Rattle.table.specs.Table.{station_at}
@@ -27,21 +25,21 @@ pub data Clause : Type 0 where
 
 -- the clauses of the pairing, of a history
 abbrev pub DepartedBefore : List (Entry ℕ) → Type 0
-DepartedBefore H = (i : ℕ) (x : Transfer ℕ) → at H i ≡ some (arrival x) → (k : ℕ) × (k < i) × (at H k ≡ some (departure x))
+DepartedBefore H = (i : ℕ) (x : Transfer ℕ) → slice_get H i ≡ Some (arrival x) → (k : ℕ) × (k < i) × (slice_get H k ≡ Some (departure x))
 
 -- two entries of one kind that belong together are the same one
 abbrev pub OnlyOne : (Transfer ℕ → Entry ℕ) → List (Entry ℕ) → Type 0
-OnlyOne kind H = (i k : ℕ) (x y : Transfer ℕ) → at H i ≡ some (kind x) → at H k ≡ some (kind y) → Belong x y → i ≡ k
+OnlyOne kind H = (i k : ℕ) (x y : Transfer ℕ) → slice_get H i ≡ Some (kind x) → slice_get H k ≡ Some (kind y) → Belong x y → i ≡ k
 
 -- none of the steps was answered 1 or 10
 abbrev pub Answered : List Line → Type 0
-Answered log = (i : ℕ) (x : Line) → at log i ≡ some x → (x.answer ≢ not_sound) × (x.answer ≢ value_limit)
+Answered log = (i : ℕ) (x : Line) → slice_get log i ≡ Some x → (x.answer ≢ not_sound) × (x.answer ≢ value_limit)
 
 -- a token that is stored in a table and is not on the way does not land by the later steps
 abbrev pub NeverLands : Table → List (Entry ℕ) → Type 0
 NeverLands t later =
-    (i j : ℕ) (k : Token) → token_for (station_at t i) j ≡ OneToken k → waits_for (slot_for (station_at t j) i) k ≡ false
-    → (n : ℕ) (x : Transfer ℕ) → at later n ≡ some (arrival x) → Belong x (transfer i j (amounting k.source.0 k.destination.0 k.quantity)) → ⊥
+    (i j : ℕ) (k : Token) → token_for (station_at t i) j ≡ Some k → waits_for (slot_for (station_at t j) i) k ≡ false
+    → (n : ℕ) (x : Transfer ℕ) → slice_get later n ≡ Some (arrival x) → Belong x (transfer i j (amounting k.source.0 k.destination.0 k.quantity)) → ⊥
 
 -- what a clause says of these steps, from a table on
 abbrev pub says : Clause → Build → Table → List Step → Type 0

@@ -1,14 +1,11 @@
 -- Demand 3, as one statement about a build: whatever list of steps it is given, from an empty table
 -- on.
-use Rattle.std.specs.Prelude.{ℕ, ◌+◌, ◌≡◌, Bool, true, false, List, ◌≢◌}
-use Rattle.std.proofs.Math.Option.{some}
-use Rattle.handshake.specs.History.{Transfer, transfer, arrival, at, Belong, Pairing, departed, arrived}
+use Rattle.std.specs.Prelude.{ℕ, ◌+◌, ◌≡◌, Bool, true, false, List, ◌≢◌, Option, Some, None, slice_get}
+use Rattle.rules.specs.declared.held.Slot.{Slot}
+use Rattle.handshake.specs.History.{Transfer, transfer, arrival, Belong, Pairing, departed, arrived}
 use Rattle.ground.specs.Answers.{not_sound, value_limit}
 use Rattle.station.specs.Held.{slot_for, token_for}
 use Rattle.rules.specs.Rules.{agree}
-use Rattle.rules.specs.declared.held.HeldSlot.{HeldSlot}
-use Rattle.rules.specs.declared.held.HeldSlot.TheVariants.{NoSlot, OneSlot}
-use Rattle.rules.specs.declared.held.HeldToken.TheVariants.{OneToken}
 use Rattle.rules.specs.declared.held.Token.{Token}
 use Rattle.table.specs.Sound.{table_sound}
 use Rattle.table.specs.Table.{station_at}
@@ -34,12 +31,12 @@ pub record Accounted (t : Table) (log : List Line) : Type 0 where
   pub way : on_the_way t + arrived amount (history_of log) ≡ departed amount (history_of log)
   -- 4. The table is sound; no step answered 1 or 10.
   pub sound : table_sound t ≡ true
-  pub answers : (i : ℕ) (x : Line) → at log i ≡ some x → (x.answer ≢ not_sound) × (x.answer ≢ value_limit)
+  pub answers : (i : ℕ) (x : Line) → slice_get log i ≡ Some x → (x.answer ≢ not_sound) × (x.answer ≢ value_limit)
 
 -- a slot waits for a token if both clocks are the same
-abbrev pub waits_for : HeldSlot → Token → Bool
-waits_for NoSlot k = false
-waits_for (OneSlot l) k = agree k l
+abbrev pub waits_for : Option Slot → Token → Bool
+waits_for None k = false
+waits_for (Some l) k = agree k l
 
 pub record Demand3 (build : Build) (empty : Table) : Type 0 where
   -- after any list of steps, and so after every step of one
@@ -47,7 +44,7 @@ pub record Demand3 (build : Build) (empty : Table) : Type 0 where
   -- 5. A token k that station i has stored for station j, and that is not on the way, counts for
   -- nothing: whatever is done later, it never lands.
   pub stale : (steps later : List Step) (i j : ℕ) (k : Token)
-      → token_for (station_at (table_after build empty steps) i) j ≡ OneToken k
+      → token_for (station_at (table_after build empty steps) i) j ≡ Some k
       → waits_for (slot_for (station_at (table_after build empty steps) j) i) k ≡ false
-      → (n : ℕ) (x : Transfer ℕ) → at (history_of (log_of build (table_after build empty steps) later)) n ≡ some (arrival x)
+      → (n : ℕ) (x : Transfer ℕ) → slice_get (history_of (log_of build (table_after build empty steps) later)) n ≡ Some (arrival x)
       → Belong x (transfer i j (amounting k.source.0 k.destination.0 k.quantity)) → ⊥

@@ -1,17 +1,13 @@
 -- A run: steps one after the other, the table that they leave, and the log of what was asked and
 -- reported. Everything that is counted is counted from the log.
-use Rattle.std.specs.Prelude.{ℕ, ◌+◌, Bool, true, false, cond, List, [], ◌∷◌, ◌++◌, eqb}
+use Rattle.std.specs.Prelude.{ℕ, ◌+◌, Bool, true, false, cond, List, [], ◌∷◌, ◌++◌, eqb, Option, Some, None}
+use Rattle.rules.specs.declared.held.Token.{Token}
+use Rattle.rules.specs.declared.held.Slot.{Slot}
 use Rattle.handshake.specs.Channel.{Held}
 use Rattle.handshake.specs.History.{Entry, departure, arrival, transfer}
 use Rattle.ground.specs.Answers.{done}
-use Rattle.rules.specs.declared.held.HeldSlot.{HeldSlot}
-use Rattle.rules.specs.declared.held.HeldSlot.TheVariants.{NoSlot, OneSlot}
-use Rattle.rules.specs.declared.held.HeldToken.{HeldToken}
-use Rattle.rules.specs.declared.held.HeldToken.TheVariants.{NoToken, OneToken}
 use Rattle.rules.specs.declared.message.Message.{Message}
 use Rattle.rules.specs.declared.report.Report.{Report}
-use Rattle.pool.specs.declared.places.Waiting.{Waiting}
-use Rattle.pool.specs.declared.places.Waiting.TheVariants.{Empty, One}
 use Rattle.steps.specs.declared.asked.Step.{Step}
 use Rattle.steps.specs.declared.asked.Step.TheVariants.{Add, Draw, Send, Deliver, Lose}
 use Rattle.table.specs.declared.stepped.Stepped.{Stepped}
@@ -25,17 +21,17 @@ Build = Table → Step → Stepped
 -- a line of the log: the step, the message that it delivered, and what was reported
 pub record Line : Type 0 where
   pub step : Step
-  pub delivered : Waiting
+  pub delivered : Option Message
   pub answer : ℕ
   pub result : ℕ
   pub report : Report
 
-abbrev pub message_delivered : Table → Step → Waiting
-message_delivered t (Add k amount) = Empty
-message_delivered t (Draw k amount) = Empty
-message_delivered t (Send from to) = Empty
+abbrev pub message_delivered : Table → Step → Option Message
+message_delivered t (Add k amount) = None
+message_delivered t (Draw k amount) = None
+message_delivered t (Send from to) = None
 message_delivered t (Deliver p) = waiting_at t p
-message_delivered t (Lose p) = Empty
+message_delivered t (Lose p) = None
 
 abbrev pub log_line : Table → Step → Stepped → Line
 log_line t step told = record { step = step; delivered = message_delivered t step; answer = told.answer; result = told.result; report = told.report }
@@ -77,20 +73,20 @@ abbrev pub amounting : ℕ → ℕ → ℕ → Held ℕ
 amounting source destination amount = record { source = source; destination = destination; carried = amount }
 
 -- a fill is an arrival: of the message's token, with the result
-abbrev pub arrival_by : Message → HeldToken → Bool → ℕ → List (Entry ℕ)
-arrival_by m (OneToken t) true amount = arrival (transfer m.from m.to (amounting t.source.0 t.destination.0 amount)) ∷ []
-arrival_by m (OneToken t) false amount = []
-arrival_by m NoToken acted amount = []
+abbrev pub arrival_by : Message → Option Token → Bool → ℕ → List (Entry ℕ)
+arrival_by m (Some t) true amount = arrival (transfer m.from m.to (amounting t.source.0 t.destination.0 amount)) ∷ []
+arrival_by m (Some t) false amount = []
+arrival_by m None acted amount = []
 
 -- a token made is a departure: for the message's slot, with the quantity reported
-abbrev pub departure_by : Message → HeldSlot → Bool → ℕ → List (Entry ℕ)
-departure_by m (OneSlot l) true amount = departure (transfer m.to m.from (amounting l.source.0 l.destination.0 amount)) ∷ []
-departure_by m (OneSlot l) false amount = []
-departure_by m NoSlot acted amount = []
+abbrev pub departure_by : Message → Option Slot → Bool → ℕ → List (Entry ℕ)
+departure_by m (Some l) true amount = departure (transfer m.to m.from (amounting l.source.0 l.destination.0 amount)) ∷ []
+departure_by m (Some l) false amount = []
+departure_by m None acted amount = []
 
-abbrev pub entries_by : Waiting → ℕ → Report → List (Entry ℕ)
-entries_by Empty result report = []
-entries_by (One m) result report =
+abbrev pub entries_by : Option Message → ℕ → Report → List (Entry ℕ)
+entries_by None result report = []
+entries_by (Some m) result report =
     arrival_by m m.token report.rule1 result ++ departure_by m m.slot report.rule5 report.made
 
 unfoldable pub history_of : List Line → List (Entry ℕ)

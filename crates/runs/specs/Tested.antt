@@ -1,14 +1,12 @@
 -- The clauses of demand 3 as tests that compute, for a run that is written out.
-use Rattle.std.specs.Prelude.{ℕ, zero, suc, ◌+◌, Bool, true, false, ◌&&◌, ◌||◌, not, List, [], ◌∷◌, eqb, length, get_or}
-use Rattle.std.proofs.Math.Option.{Option, none, some}
+use Rattle.std.specs.Prelude.{ℕ, zero, suc, ◌+◌, Bool, true, false, ◌&&◌, ◌||◌, not, List, [], ◌∷◌, eqb, length, get_or, Option, Some, None, slice_get}
+use Rattle.rules.specs.declared.held.Token.{Token}
+use Rattle.rules.specs.declared.held.Slot.{Slot}
 use Rattle.handshake.specs.Channel.{Held}
-use Rattle.handshake.specs.History.{Transfer, Entry, departure, arrival, at, departed, arrived}
+use Rattle.handshake.specs.History.{Transfer, Entry, departure, arrival, departed, arrived}
 use Rattle.ground.specs.Answers.{not_sound, value_limit}
 use Rattle.ground.specs.Below.{all_below}
 use Rattle.station.specs.Held.{slot_for, token_for}
-use Rattle.rules.specs.declared.held.HeldSlot.{HeldSlot}
-use Rattle.rules.specs.declared.held.HeldToken.{HeldToken}
-use Rattle.rules.specs.declared.held.HeldToken.TheVariants.{NoToken, OneToken}
 use Rattle.table.specs.Sound.{table_sound}
 use Rattle.table.specs.Table.{station_at}
 use Rattle.table.specs.Way.{at_stations, on_the_way}
@@ -25,38 +23,38 @@ any_below test (suc n) = test n || any_below test n
 
 -- the transfer of an entry, if it is a departure, or an arrival
 abbrev pub departure_in : Option (Entry ℕ) → Option (Transfer ℕ)
-departure_in none = none
-departure_in (some (departure x)) = some x
-departure_in (some (arrival x)) = none
+departure_in None = None
+departure_in (Some (departure x)) = Some x
+departure_in (Some (arrival x)) = None
 
 abbrev pub arrival_in : Option (Entry ℕ) → Option (Transfer ℕ)
-arrival_in none = none
-arrival_in (some (departure x)) = none
-arrival_in (some (arrival x)) = some x
+arrival_in None = None
+arrival_in (Some (departure x)) = None
+arrival_in (Some (arrival x)) = Some x
 
 abbrev pub belongs : Transfer ℕ → Transfer ℕ → Bool
 belongs x y =
     eqb x.maker y.maker && eqb x.receiver y.receiver && eqb x.token.source y.token.source && eqb x.token.destination y.token.destination
 
 abbrev pub belong_in : Option (Transfer ℕ) → Option (Transfer ℕ) → Bool
-belong_in none y = false
-belong_in (some x) none = false
-belong_in (some x) (some y) = belongs x y
+belong_in None y = false
+belong_in (Some x) None = false
+belong_in (Some x) (Some y) = belongs x y
 
 -- of the same amount too
 abbrev pub same_in : Transfer ℕ → Option (Transfer ℕ) → Bool
-same_in x none = false
-same_in x (some y) = belongs x y && eqb x.token.carried y.token.carried
+same_in x None = false
+same_in x (Some y) = belongs x y && eqb x.token.carried y.token.carried
 
 abbrev pub departed_by : List (Entry ℕ) → ℕ → Option (Transfer ℕ) → Bool
-departed_by H i none = true
-departed_by H i (some x) = any_below (λ k. same_in x (departure_in (at H k))) i
+departed_by H i None = true
+departed_by H i (Some x) = any_below (λ k. same_in x (departure_in (slice_get H k))) i
 
 abbrev pub departed_before_test : List (Entry ℕ) → Bool
-departed_before_test H = all_below (λ i. departed_by H i (arrival_in (at H i))) (length H)
+departed_before_test H = all_below (λ i. departed_by H i (arrival_in (slice_get H i))) (length H)
 
 abbrev pub apart : (Option (Entry ℕ) → Option (Transfer ℕ)) → List (Entry ℕ) → ℕ → ℕ → Bool
-apart kind_in H i k = eqb i k || not (belong_in (kind_in (at H i)) (kind_in (at H k)))
+apart kind_in H i k = eqb i k || not (belong_in (kind_in (slice_get H i)) (kind_in (slice_get H k)))
 
 abbrev pub only_one_test : (Option (Entry ℕ) → Option (Transfer ℕ)) → List (Entry ℕ) → Bool
 only_one_test kind_in H = all_below (λ i. all_below (apart kind_in H i) (length H)) (length H)
@@ -66,16 +64,16 @@ answered_test [] = true
 answered_test (x ∷ log) = not (eqb x.answer not_sound) && not (eqb x.answer value_limit) && answered_test log
 
 -- an arrival, of a token that its maker stores: only where the slot waits for it
-abbrev pub may_land : Held ℕ → HeldToken → HeldSlot → Bool
-may_land x NoToken l = true
-may_land x (OneToken k) l = waits_for l k || not (eqb x.source k.source.0 && eqb x.destination k.destination.0)
+abbrev pub may_land : Held ℕ → Option Token → Option Slot → Bool
+may_land x None l = true
+may_land x (Some k) l = waits_for l k || not (eqb x.source k.source.0 && eqb x.destination k.destination.0)
 
 abbrev pub lands_by : Table → Option (Transfer ℕ) → Bool
-lands_by t none = true
-lands_by t (some x) = may_land x.token (token_for (station_at t x.maker) x.receiver) (slot_for (station_at t x.receiver) x.maker)
+lands_by t None = true
+lands_by t (Some x) = may_land x.token (token_for (station_at t x.maker) x.receiver) (slot_for (station_at t x.receiver) x.maker)
 
 abbrev pub never_lands_test : Table → List (Entry ℕ) → Bool
-never_lands_test t later = all_below (λ n. lands_by t (arrival_in (at later n))) (length later)
+never_lands_test t later = all_below (λ n. lands_by t (arrival_in (slice_get later n))) (length later)
 
 unfoldable pub stale_test : Build → Table → List Step → Bool
 stale_test build t [] = true

@@ -1,4 +1,5 @@
 -- What a script's calls answer is what their lists of refusals give. Assumes nothing.
+use Rattle.std.proofs.Common.{Option, Some, None}
 use Prim.Native.Nat.{ℕ}
 use mathlib.Core.Path.{◌≡◌, refl}
 use mathlib.Core.Bool.{Bool, true, false, cond, not}
@@ -10,8 +11,6 @@ use Rattle.ground.specs.Refusals.{when, answer_of}
 use Rattle.station.specs.Sound.{count_sound}
 use Rattle.table.specs.Fresh.{fresh_table_of}
 use Rattle.script.specs.declared.starting.Run.{Run}
-use Rattle.script.specs.declared.words.Numeral.{Numeral}
-use Rattle.script.specs.declared.words.Numeral.TheVariants.{Unreadable, Reads}
 use Rattle.script.specs.Closing.{closing_room}
 use Rattle.script.specs.Lines.{stations_of}
 use Rattle.script.specs.Reading.{line_at, past_line}
@@ -19,14 +18,14 @@ use Rattle.script.specs.Script.{most_bytes}
 use Rattle.script.specs.Starting.{not_started, start_for, names_none, names_bad, start_refusals, started_of}
 use Rattle.script.specs.Putting.{run_sound, OutputPiece, put_lines_refusals, piece_of}
 
-start_by : (long : Bool) (first : Numeral) (at : ℕ) → (cond long (not_started long_script) (start_for first at)).answer
+start_by : (long : Bool) (first : Option ℕ) (at : ℕ) → (cond long (not_started long_script) (start_for first at)).answer
     ≡ answer_of (when long long_script ∷ when (names_none first) bad_line ∷ when (names_bad first) not_sound ∷ [])
 unfolding fresh_table_of
 start_by true first at = refl
-start_by false Unreadable at = refl
-start_by false (Reads count) at = by (count_sound count) refl
+start_by false None at = refl
+start_by false (Some count) at = by (count_sound count) refl
   where
-    by : (b : Bool) → count_sound count ≡ b → (start_for (Reads count) at).answer ≡ cond (not (count_sound count)) not_sound 0
+    by : (b : Bool) → count_sound count ≡ b → (start_for (Some count) at).answer ≡ cond (not (count_sound count)) not_sound 0
     by true e = rw e
     by false e = rw e
 

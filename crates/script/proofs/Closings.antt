@@ -3,11 +3,10 @@
 use Prim.Native.Nat.{ℕ, zero, suc, ◌+◌, ◌*◌, ◌≤◌, ◌<◌}
 use mathlib.Core.Path.{◌≡◌, refl, ap}
 use mathlib.Core.Bool.{true}
-use mathlib.Core.List.{List, [], ◌++◌}
+use mathlib.Core.List.{[], ◌++◌}
 use native.Mathlib.Numerals.{add-one}
 use native.Mathlib.Omega.{arith}
 use lib.ListN.{length, length-append}
-use lib.Seq.{sets}
 use Rattle.ground.specs.Limits.{most_stations, most_value}
 use Rattle.table.specs.declared.table.Table.{Table}
 use Rattle.ground.specs.declared.told.Told.{Told}
@@ -22,13 +21,12 @@ use Rattle.table.proofs.Sums.{between_small, station_sound_lem}
 use Rattle.script.specs.Script.{station_lines}
 use Rattle.script.specs.Closing.{seat_line}
 use Rattle.script.proofs.Lengths.{length_station}
-use Rattle.script.proofs.Puts.{both}
 
 pub no_stations : (t : Table) → station_lines t 0 ≡ []
 unfolding station_lines
 no_stations t = refl
 
-more_stations : (t : Table) (k : ℕ) → station_lines t (k + 1) ≡ station_lines t k ++ seat_line k (station_at t k)
+pub more_stations : (t : Table) (k : ℕ) → station_lines t (k + 1) ≡ station_lines t k ++ seat_line k (station_at t k)
 unfolding station_lines
 more_stations t k = rw (add-one k)
 
@@ -38,13 +36,6 @@ length_stations t zero = omega arith
 length_stations t (suc k) =
     let s = station_at t k in
     rw length-append (omega (arith, length_stations t k, length_station k s.value s.source.0 s.destination.0))
-
--- the next station's line put behind those before it
-pub station_turn : (b : List ℕ) (at : ℕ) (t : Table) (k next end : ℕ) (a a' : List ℕ) → (next ≡ at + length (station_lines t k)) × (a ≡ sets b at (station_lines t k)) → (end ≡ next + length (seat_line k (station_at t k))) × (a' ≡ sets a next (seat_line k (station_at t k))) → (end ≡ at + length (station_lines t (k + 1))) × (a' ≡ sets b at (station_lines t (k + 1)))
-station_turn b at t k next end a a' e e' = rw (more_stations t k) (both b at (station_lines t k) (seat_line k (station_at t k)) next end a a' e e')
-
-pub stations_put : (b : List ℕ) (at : ℕ) (t : Table) (k n next : ℕ) (a : List ℕ) → k ≡ n → (next ≡ at + length (station_lines t k)) × (a ≡ sets b at (station_lines t k)) → (next ≡ at + length (station_lines t n)) × (a ≡ sets b at (station_lines t n))
-stations_put b at t k n next a e f = rw (← e) f
 
 -- a sum of so many numbers that are each in range
 sum_small : (f : ℕ → ℕ) (most n : ℕ) → ((k : ℕ) → k < n → f k ≤ most) → sum_below f n ≤ n * most

@@ -1,14 +1,16 @@
 -- What a turn puts fits the buffer: the first bytes of the buffer, as many as the result says, are
 -- the bytes put. Assumes nothing.
+use Rattle.std.proofs.Common.{Option}
 use Prim.Native.Nat.{ℕ, ◌+◌, ◌*◌, ◌≤◌, ◌<◌}
 use mathlib.Core.Path.{◌≡◌, refl}
 use mathlib.Core.Bool.{Bool, true, false}
 use mathlib.Core.List.{List, [], ◌∷◌, ◌++◌}
 use mathlib.Core.Logic.{⊎_elim}
 use native.Mathlib.Omega.{arith}
-use borrow.Author.Tests.{le-ltb}
+use Rattle.steps.specs.declared.asked.Step.{Step}
+use borrow.Author.Tests.{le-ltb, lt-ltb}
 use lib.ListN.{length, take, length-append}
-use Rattle.steps.specs.declared.asked.Asked.{Asked}
+use lib.Seq.{length-sets}
 use Rattle.table.specs.declared.table.Table.{Table}
 use Rattle.steps.specs.Running.{asked_step}
 use Rattle.table.specs.Sound.{table_sound}
@@ -22,7 +24,7 @@ use Rattle.script.specs.Script.{closing, station_lines}
 use Rattle.script.specs.Closing.{closing_room}
 use Rattle.script.specs.Reading.{lines_from}
 use Rattle.script.specs.Telling.{lines_of_steps}
-use Rattle.script.specs.Starting.{answer_line, PutsAnswer, step_room}
+use Rattle.script.specs.Starting.{answer_bytes, answer_line, PutsAnswer, step_room}
 use Rattle.script.specs.Putting.{at_once, PutsLines, run_sound, piece_of}
 use Rattle.script.proofs.Lengths.{length_says, length_total, length_way}
 use Rattle.script.proofs.Puts.{put_first}
@@ -31,7 +33,7 @@ use Rattle.ground.proofs.Tests.{below_or_not}
 use Rattle.script.proofs.Readings.{lines_few}
 use Rattle.script.proofs.Turns.{table_sound_lem, turn_closes, turn_finished, turn_short, turn_steps, turn_unsound}
 
-said_fits : (n : ℕ) (t : Table) (xs : List Asked) → length (lines_of_steps n t xs) ≤ 63 * length xs
+said_fits : (n : ℕ) (t : Table) (xs : List (Option Step)) → length (lines_of_steps n t xs) ≤ 63 * length xs
 unfolding lines_of_steps
 said_fits n t [] = omega arith
 said_fits n t (x ∷ xs) = let s = asked_step t x in rw length-append (omega (arith, length_says n s.answer s.result, said_fits (n + 1) s.table xs))
@@ -82,3 +84,17 @@ pub answer_first : (answer : ℕ) (out : List ℕ) {r : Told} {later : List ℕ}
 answer_first answer out h p =
     let line = answer_line answer in
     rw (p.put, p.lent, le-ltb (length out) step_room h) (put_first out line (length line) refl (omega (arith, length_says 0 answer 0)))
+
+-- so a result is never more than the buffer's length
+answer_by : (answer : ℕ) (out : List ℕ) → length (answer_bytes answer out) ≤ length out
+answer_by answer out =
+    ⊎_elim
+    (λ (h : length out < step_room). rw (lt-ltb (length out) step_room h) (omega arith))
+    (λ (h : step_room ≤ length out). rw (le-ltb (length out) step_room h) (omega (arith, length_says 0 answer 0)))
+    (below_or_not (length out) step_room)
+
+pub put_lines_fits : {script : List ℕ} {run : Run} {out : List ℕ} {r : PutLines} {later : List ℕ} → PutsLines script run out r later → r.result ≤ length later
+put_lines_fits {script} {run} {out} f = rw (f.put, f.lent, length-sets) (turn_fits script run (length out))
+
+pub answer_fits : {answer : ℕ} {out : List ℕ} {r : Told} {later : List ℕ} → PutsAnswer answer out r later → r.result ≤ length later
+answer_fits {answer} {out} p = rw (p.put, p.lent, length-sets) (answer_by answer out)

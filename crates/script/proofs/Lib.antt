@@ -1,7 +1,6 @@
 pub mod Cutting
 pub mod Sameness
 pub mod Digits
-pub mod Asked
 pub mod Puts
 pub mod Decimals
 pub mod Lengths

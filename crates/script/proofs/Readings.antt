@@ -1,22 +1,22 @@
 -- Lines read one after the other: what is still to be read, where they end, and the numbers that
 -- they are read into. Assumes nothing.
+use Rattle.std.proofs.Common.{Option, Some, None}
 use Prim.Native.Nat.{ℕ, zero, suc, ◌+◌, ◌-◌, ◌*◌, ◌≤◌, ◌<◌}
 use mathlib.Core.Path.{◌≡◌, refl, sym, ap, ◌∙◌}
-use mathlib.Core.Bool.{Bool, true, false, cond, ◌&&◌}
+use mathlib.Core.Bool.{Bool, true, false, cond}
 use mathlib.Core.List.{List, [], ◌∷◌}
 use mathlib.Core.Logic.{◌⊎◌, inl, inr, ⊎_elim}
 use native.Mathlib.Omega.{arith}
+use Rattle.steps.specs.declared.asked.Step.{Step}
 use borrow.Author.Tests.{lt-ltb, le-ltb, ltb-true, ltb-false}
 use lib.Dec.{ltb}
-use lib.ListN.{length, get_or, drop, set, length-append, length-drop}
+use lib.ListN.{length, drop, length-append, length-drop}
 use lib.Seq.{sets, length-sets}
 use Rattle.ground.proofs.Stores.{then}
 use Rattle.ground.proofs.Tests.{below_or_not}
-use Rattle.steps.specs.declared.asked.Asked.{Asked}
-use Rattle.steps.specs.declared.asked.Asked.TheVariants.{NoStep, OneStep}
 use Rattle.steps.specs.declared.asked.Step.TheVariants.{Add, Draw, Send, Deliver, Lose}
 use Rattle.steps.specs.Running.{asked_in, numbers_for}
-use Rattle.script.specs.Words.{index_of}
+use Rattle.script.specs.Words.{index_of, past}
 use Rattle.script.specs.Lines.{line_of}
 use Rattle.script.specs.Reading.{line_at, lines_from, numbers_for_all, past_line, past_lines, lines_read}
 
@@ -29,6 +29,10 @@ within_by : (at i n m : ℕ) (inside : Bool) → ltb i m ≡ inside → m ≡ n 
 within_by at i n m true e f = omega (arith, ltb-true i m e)
 within_by at i n m false e f = omega arith
 
+left_behind : (at i n m : ℕ) (inside : Bool) → ltb i m ≡ inside → m ≡ n - at → n - (m - (i + 1)) ≡ cond inside (at + i + 1) n
+left_behind at i n m true e f = omega (arith, ltb-true i m e)
+left_behind at i n m false e f = omega (arith, ltb-false i m e)
+
 module _ (script : List ℕ) (at : ℕ) where
   pub past_onward : at < length script → at < past_line script at
   past_onward h = onward_by at (index_of 10 (drop at script)) (length script) (ltb (index_of 10 (drop at script)) (length (drop at script))) h
@@ -37,6 +41,12 @@ module _ (script : List ℕ) (at : ℕ) where
   past_within =
       let rest = drop at script in
       within_by at (index_of 10 rest) (length script) (length rest) (ltb (index_of 10 rest) (length rest)) refl (length-drop at script)
+
+  -- what is left past the line tells the position
+  pub past_is : length script - length (past 10 (drop at script)) ≡ past_line script at
+  past_is =
+      let rest = drop at script in
+      rw length-drop (left_behind at (index_of 10 rest) (length script) (length rest) (ltb (index_of 10 rest) (length rest)) refl (length-drop at script))
 
   -- the next line, and none
   pub lines_more : (most : ℕ) → at < length script → lines_from (suc most) script at ≡ line_of (line_at script at) ∷ lines_from most script (past_line script at)
@@ -96,40 +106,29 @@ pub lines_some : (most : ℕ) (script : List ℕ) (at : ℕ) → 0 < most → at
 lines_some zero script at m h = absurd (omega arith)
 lines_some (suc most) script at m h = rw (lines_more script at most h) (omega arith)
 
--- three stores one after the other
-pub three_stores : (l : List ℕ) (at : ℕ) (xs : List ℕ) → length xs ≡ 3 → set (set (set l at (get_or xs 0 0)) (at + 1) (get_or xs 1 0)) (at + 2) (get_or xs 2 0) ≡ sets l at xs
-three_stores l at [] e = absurd (omega arith)
-three_stores l at (a ∷ []) e = absurd (omega arith)
-three_stores l at (a ∷ b ∷ []) e = absurd (omega arith)
-three_stores l at (a ∷ b ∷ c ∷ []) e =
-    let one : at + 1 ≡ suc at = omega arith in
-    let two : at + 2 ≡ suc (suc at) = omega arith in
-    rw (one, two)
-three_stores l at (a ∷ b ∷ c ∷ d ∷ xs) e = absurd (omega arith)
-
 -- three numbers for each line, which name what it asks for
-pub length_three : (x : Asked) → length (numbers_for x) ≡ 3
-length_three NoStep = refl
-length_three (OneStep (Add k amount)) = refl
-length_three (OneStep (Draw k amount)) = refl
-length_three (OneStep (Send from to)) = refl
-length_three (OneStep (Deliver p)) = refl
-length_three (OneStep (Lose p)) = refl
+pub length_three : (x : Option Step) → length (numbers_for x) ≡ 3
+length_three None = refl
+length_three (Some (Add k amount)) = refl
+length_three (Some (Draw k amount)) = refl
+length_three (Some (Send from to)) = refl
+length_three (Some (Deliver p)) = refl
+length_three (Some (Lose p)) = refl
 
-pub length_numbers : (xs : List Asked) → length (numbers_for_all xs) ≡ 3 * length xs
+pub length_numbers : (xs : List (Option Step)) → length (numbers_for_all xs) ≡ 3 * length xs
 unfolding numbers_for_all
 length_numbers [] = refl
 length_numbers (x ∷ xs) = rw (length-append, length_three x, length_numbers xs) (omega arith)
 
-pub numbers_asked : (xs : List Asked) → asked_in (length xs) (numbers_for_all xs) ≡ xs
+pub numbers_asked : (xs : List (Option Step)) → asked_in (length xs) (numbers_for_all xs) ≡ xs
 unfolding numbers_for_all asked_in
 numbers_asked [] = refl
-numbers_asked (NoStep ∷ xs) = rw (numbers_asked xs)
-numbers_asked (OneStep (Add k amount) ∷ xs) = rw (numbers_asked xs)
-numbers_asked (OneStep (Draw k amount) ∷ xs) = rw (numbers_asked xs)
-numbers_asked (OneStep (Send from to) ∷ xs) = rw (numbers_asked xs)
-numbers_asked (OneStep (Deliver p) ∷ xs) = rw (numbers_asked xs)
-numbers_asked (OneStep (Lose p) ∷ xs) = rw (numbers_asked xs)
+numbers_asked (None ∷ xs) = rw (numbers_asked xs)
+numbers_asked (Some (Add k amount) ∷ xs) = rw (numbers_asked xs)
+numbers_asked (Some (Draw k amount) ∷ xs) = rw (numbers_asked xs)
+numbers_asked (Some (Send from to) ∷ xs) = rw (numbers_asked xs)
+numbers_asked (Some (Deliver p) ∷ xs) = rw (numbers_asked xs)
+numbers_asked (Some (Lose p) ∷ xs) = rw (numbers_asked xs)
 
 -- Some lines are read: the numbers, the lines and the position, with those still to be read, are
 -- those of all lines.
@@ -153,7 +152,7 @@ module _ (script : List ℕ) (start most : ℕ) (codes₀ : List ℕ) where
       }
 
   module _ (codes : List ℕ) (at lines : ℕ) (r : Reading script start most codes₀ codes at lines) where
-    pub line_read : (codes' : List ℕ) {x : Asked} → lines < most → at < length script → x ≡ line_of (line_at script at) → codes' ≡ sets codes (3 * lines) (numbers_for x)
+    pub line_read : (codes' : List ℕ) {x : Option Step} → lines < most → at < length script → x ≡ line_of (line_at script at) → codes' ≡ sets codes (3 * lines) (numbers_for x)
         → Reading script start most codes₀ codes' (past_line script at) (lines + 1)
     unfolding numbers_for_all
     line_read codes' {x} f h e s =
@@ -167,7 +166,7 @@ module _ (script : List ℕ) (start most : ℕ) (codes₀ : List ℕ) where
           same = ap length s ∙ length-sets codes (3 * lines) (numbers_for x) ∙ r.same;
           put =
               then codes (3 * lines) (3 * (lines + 1)) (numbers_for x) (numbers_for_all xs) codes' _ s refl behind
-              ∙ ap (λ (l : List Asked). sets codes (3 * lines) (numbers_for_all l)) (sym more)
+              ∙ ap (λ (l : List (Option Step)). sets codes (3 * lines) (numbers_for_all l)) (sym more)
               ∙ r.put;
           count = omega (arith, ap length more, r.count);
           past = sym (past_more script at left h) ∙ ap (λ (n : ℕ). past_lines n script at) (sym one) ∙ r.past;
@@ -177,17 +176,12 @@ module _ (script : List ℕ) (start most : ℕ) (codes₀ : List ℕ) where
     ended (inl e) = rw e (lines_zero script at, past_zero script at)
     ended (inr h) = (lines_none script at (most - lines) h, past_none script at (most - lines) h)
 
-    no_more : (ltb lines most && ltb at (length script)) ≡ false → (most - lines ≡ 0) ⊎ (length script ≤ at)
-    no_more e =
-        ⊎_elim
-        (λ (h : lines < most). inr (ltb-false at (length script) (rw (lt-ltb lines most h) at e)))
-        (λ (h : most ≤ lines). inl (omega arith))
-        (below_or_not lines most)
-
-    pub all_read : (ltb lines most && ltb at (length script)) ≡ false → (record { lines = lines; at = at } ≡ lines_read most script start) × (codes ≡ sets codes₀ 0 (numbers_for_all (lines_from most script start)))
+    -- so many lines were asked for, or the script has no more
+    pub all_read : (n : ℕ) → n ≡ lines → (most - lines ≡ 0) ⊎ (length script ≤ at)
+        → (record { lines = n; at = at } ≡ lines_read most script start) × (codes ≡ sets codes₀ 0 (numbers_for_all (lines_from most script start)))
     unfolding numbers_for_all
-    all_read e =
-        let none = ended (no_more e) in
-        let count : lines ≡ length (lines_from most script start) = omega (arith, ap length none.0, r.count) in
+    all_read n e over =
+        let none = ended over in
+        let count : n ≡ length (lines_from most script start) = omega (arith, ap length none.0, r.count) in
         let past : at ≡ past_lines most script start = sym none.1 ∙ r.past in
         (rw (← count, ← past), rw none.0 at r.put)

@@ -1,18 +1,18 @@
 -- What steps told put as lines, one step after the other. Assumes nothing.
+use Rattle.std.proofs.Common.{Option}
 use Prim.Native.Nat.{ℕ, zero, suc, ◌+◌, ◌*◌, ◌≤◌}
 use mathlib.Core.Path.{◌≡◌, refl, sym, ap, ◌∙◌}
 use mathlib.Core.List.{List, [], ◌∷◌, ◌++◌, append_assoc, append-nil}
 use native.Mathlib.Numerals.{add-one}
 use native.Mathlib.Omega.{arith}
+use Rattle.steps.specs.declared.asked.Step.{Step}
 use lib.ListN.{length, get_or, drop, length-append}
-use lib.Seq.{sets, get_or-drop}
-use Rattle.steps.specs.declared.asked.Asked.{Asked}
+use lib.Seq.{get_or-drop}
 use Rattle.table.specs.declared.table.Table.{Table}
 use Rattle.steps.specs.Running.{asked_step, all_told}
 use Rattle.script.specs.Decimal.{step_line}
 use Rattle.script.specs.Telling.{lines_of_steps, lines_of_told}
 use Rattle.script.proofs.Lengths.{length_says}
-use Rattle.script.proofs.Puts.{both, from_start}
 
 pub said_none : (n : ℕ) (told : List ℕ) → lines_of_told 0 n told ≡ []
 unfolding lines_of_told
@@ -40,7 +40,7 @@ said_on (suc k) n told =
     ap (λ (more : List ℕ). line ++ more) (said_on k (n + 1) (drop 5 told) ∙ ap (λ (last : List ℕ). lines_of_told k (n + 1) (drop 5 told) ++ last) (at_next k n told))
     ∙ sym (append_assoc line (lines_of_told k (n + 1) (drop 5 told)) (said_at (suc k) n told))
 
-said_more : (k n : ℕ) (told : List ℕ) → lines_of_told (k + 1) n told ≡ lines_of_told k n told ++ said_at k n told
+pub said_more : (k n : ℕ) (told : List ℕ) → lines_of_told (k + 1) n told ≡ lines_of_told k n told ++ said_at k n told
 said_more k n told = rw (add-one k) (said_on k n told)
 
 pub said_short : (k n : ℕ) (told : List ℕ) → length (lines_of_told k n told) ≤ 63 * k
@@ -48,15 +48,8 @@ unfolding lines_of_told
 said_short zero n told = omega arith
 said_short (suc k) n told = rw length-append (omega (arith, length_says n (get_or told 0 0) (get_or told 1 0), said_short k (n + 1) (drop 5 told)))
 
--- the next step's line put behind those before it
-pub said_turn : (out₀ : List ℕ) (told : List ℕ) (n k size end : ℕ) (out out' : List ℕ) → (size ≡ 0 + length (lines_of_told k n told)) × (out ≡ sets out₀ 0 (lines_of_told k n told)) → (end ≡ size + length (said_at k n told)) × (out' ≡ sets out size (said_at k n told)) → (end ≡ 0 + length (lines_of_told (k + 1) n told)) × (out' ≡ sets out₀ 0 (lines_of_told (k + 1) n told))
-said_turn out₀ told n k size end out out' e e' = rw (said_more k n told) (both out₀ 0 (lines_of_told k n told) (said_at k n told) size end out out' e e')
-
-pub all_said : (out₀ : List ℕ) (told : List ℕ) (n k steps size : ℕ) (out : List ℕ) → k ≡ steps → (size ≡ 0 + length (lines_of_told k n told)) × (out ≡ sets out₀ 0 (lines_of_told k n told)) → (size ≡ length (lines_of_told steps n told)) × (out ≡ sets out₀ 0 (lines_of_told steps n told))
-all_said out₀ told n k steps size out e put = rw (← e) (from_start out₀ (lines_of_told k n told) size out put)
-
 -- the lines of what steps told are the lines of the steps
-pub said_told : (xs : List Asked) (n : ℕ) (t : Table) (rest : List ℕ) → lines_of_told (length xs) n (all_told t xs ++ rest) ≡ lines_of_steps n t xs
+pub said_told : (xs : List (Option Step)) (n : ℕ) (t : Table) (rest : List ℕ) → lines_of_told (length xs) n (all_told t xs ++ rest) ≡ lines_of_steps n t xs
 unfolding lines_of_told all_told lines_of_steps
 said_told [] n t rest = refl
 said_told (x ∷ xs) n t rest = let s = asked_step t x in ap (λ (more : List ℕ). step_line n s.answer s.result ++ more) (said_told xs (n + 1) s.table rest)

@@ -1,17 +1,18 @@
 -- A turn that puts the lines of steps: lines to numbers, numbers to what was told, and that to
 -- lines. Assumes nothing.
+use Rattle.std.proofs.Common.{Option}
 use Prim.Native.Nat.{ℕ, ◌+◌, ◌*◌, ◌≤◌, ◌<◌}
 use mathlib.Core.Path.{◌≡◌, refl, sym, ap, ◌∙◌}
 use mathlib.Core.Bool.{Bool, true, false, cond, and-eq-true_iff}
 use mathlib.Core.List.{List, [], ◌∷◌, ◌++◌}
 use native.Mathlib.Omega.{arith}
+use Rattle.steps.specs.declared.asked.Step.{Step}
 use borrow.Author.Tests.{leb-true, le-ltb, lt-ltb}
 use lib.Dec.{leb}
 use lib.ListN.{length, take, drop}
 use lib.Seq.{sets, length-sets}
 use Rattle.ground.proofs.Stores.{in_front_lem}
 use Rattle.steps.specs.declared.running.Ran.{Ran}
-use Rattle.steps.specs.declared.asked.Asked.{Asked}
 use Rattle.table.specs.declared.table.Table.{Table}
 use Rattle.table.specs.Sound.{table_sound}
 use Rattle.steps.specs.Running.{asked_in, asked_of, asked_step, left_by, ran_of, Runs, steps_in, all_told, told_in_run}
@@ -33,13 +34,13 @@ table_sound_lem run e =
     let both = (and-eq-true_iff (table_sound run.table) (leb run.number most_bytes)).0 e in
     (both.0, leb-true run.number most_bytes both.1)
 
-length_told : (t : Table) (xs : List Asked) → length (all_told t xs) ≡ 5 * length xs
+length_told : (t : Table) (xs : List (Option Step)) → length (all_told t xs) ≡ 5 * length xs
 unfolding all_told
 length_told t [] = refl
 length_told t (x ∷ xs) = omega (arith, length_told (asked_step t x).table xs)
 
 -- a table that is sound runs the steps that are lent
-module _ (t : Table) (e : table_sound t ≡ true) (xs : List Asked) (told : List ℕ) (room : 5 * length xs ≤ length told) where
+module _ (t : Table) (e : table_sound t ≡ true) (xs : List (Option Step)) (told : List ℕ) (room : 5 * length xs ≤ length told) where
   all_steps : steps_in (numbers_for_all xs) told ≡ length xs
   all_steps = omega (arith, length_numbers xs)
 

@@ -1,15 +1,15 @@
 -- For every script and any buffer that a turn accepts, the program's loop puts the script's output,
 -- and ends because its run has finished. Assumes nothing.
+use Rattle.std.proofs.Common.{Option, Some, None}
 use Prim.Native.Nat.{ℕ, zero, suc, ◌+◌, ◌≤◌, ◌<◌}
 use mathlib.Core.Path.{◌≡◌, refl, sym, ◌∙◌}
 use mathlib.Core.Bool.{true, false}
 use mathlib.Core.List.{List, [], ◌∷◌, append-nil}
 use mathlib.Core.Logic.{⊎_elim}
 use native.Mathlib.Omega.{arith}
+use Rattle.steps.specs.declared.asked.Step.{Step}
 use borrow.Author.Tests.{le-leb}
 use lib.ListN.{length}
-use Rattle.steps.specs.declared.asked.Asked.{Asked}
-use Rattle.steps.specs.declared.asked.Asked.TheVariants.{NoStep, OneStep}
 use Rattle.table.specs.declared.table.Table.{Table}
 use Rattle.table.specs.Sound.{table_sound}
 use Rattle.steps.specs.Running.{asked_step, left_by}
@@ -30,11 +30,11 @@ use Rattle.script.proofs.Runs.{owed_ended, owed_lines, owed_from}
 use Rattle.script.proofs.Starts.{begun, Begun, going, refused, start_prints, printed}
 
 -- steps keep a table sound
-asked_keeps : (t : Table) (x : Asked) → table_sound t ≡ true → table_sound (asked_step t x).table ≡ true
-asked_keeps t NoStep e = e
-asked_keeps t (OneStep step) e = step_keeps t step e
+asked_keeps : (t : Table) (x : Option Step) → table_sound t ≡ true → table_sound (asked_step t x).table ≡ true
+asked_keeps t None e = e
+asked_keeps t (Some step) e = step_keeps t step e
 
-left_keeps : (t : Table) (xs : List Asked) → table_sound t ≡ true → table_sound (left_by t xs) ≡ true
+left_keeps : (t : Table) (xs : List (Option Step)) → table_sound t ≡ true → table_sound (left_by t xs) ≡ true
 unfolding left_by
 left_keeps t [] e = e
 left_keeps t (x ∷ xs) e = left_keeps (asked_step t x).table xs (asked_keeps t x e)

@@ -3,6 +3,7 @@ pub mod Parts
 pub mod Lines
 pub mod Decimal
 pub mod Script
+pub mod Page
 pub mod Closing
 pub mod Reading
 pub mod Telling

@@ -1,6 +1,6 @@
 -- A script's lines by the position that they start at, and what several of them ask for.
-use Rattle.std.specs.Prelude.{ℕ, zero, suc, ◌+◌, cond, List, [], ◌∷◌, ◌++◌, ltb, length, drop}
-use Rattle.steps.specs.declared.asked.Asked.{Asked}
+use Rattle.std.specs.Prelude.{ℕ, zero, suc, ◌+◌, cond, List, [], ◌∷◌, ◌++◌, ltb, length, drop, Option}
+use Rattle.steps.specs.declared.asked.Step.{Step}
 use Rattle.steps.specs.Running.{numbers_for}
 use Rattle.script.specs.declared.reading.Read.{Read}
 use Rattle.script.specs.Words.{index_of, up_to}
@@ -15,7 +15,7 @@ abbrev pub past_line : List ℕ → ℕ → ℕ
 past_line script at = let rest = drop at script in cond (ltb (index_of 10 rest) (length rest)) (at + index_of 10 rest + 1) (length script)
 
 -- what the lines from a position on ask for, at most so many, and the position past them
-unfoldable pub lines_from : ℕ → List ℕ → ℕ → List Asked
+unfoldable pub lines_from : ℕ → List ℕ → ℕ → List (Option Step)
 lines_from zero script at = []
 lines_from (suc most) script at = cond (ltb at (length script)) (line_of (line_at script at) ∷ lines_from most script (past_line script at)) []
 
@@ -27,6 +27,6 @@ abbrev pub lines_read : ℕ → List ℕ → ℕ → Read
 lines_read most script at = record { lines = length (lines_from most script at); at = past_lines most script at }
 
 -- the numbers of what is asked for, three for each
-unfoldable pub numbers_for_all : List Asked → List ℕ
+unfoldable pub numbers_for_all : List (Option Step) → List ℕ
 numbers_for_all [] = []
 numbers_for_all (x ∷ xs) = numbers_for x ++ numbers_for_all xs

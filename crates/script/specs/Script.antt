@@ -1,5 +1,5 @@
 -- What a script prints, from its first line to the total, for any bytes.
-use Rattle.std.specs.Prelude.{ℕ, zero, suc, ◌+◌, cond, List, [], ◌∷◌, ◌++◌, ltb, length}
+use Rattle.std.specs.Prelude.{ℕ, zero, suc, ◌+◌, cond, List, [], ◌∷◌, ◌++◌, ltb, length, Option, Some, None}
 use Rattle.ground.specs.Answers.{bad_line, long_script}
 use Rattle.ground.specs.Choice.{if_done}
 use Rattle.table.specs.declared.table.Table.{Table}
@@ -8,8 +8,6 @@ use Rattle.table.specs.Table.{station_at}
 use Rattle.table.specs.Fresh.{fresh_table_of}
 use Rattle.steps.specs.Running.{asked_step}
 use Rattle.table.specs.Way.{on_the_way, at_stations}
-use Rattle.script.specs.declared.words.Numeral.{Numeral}
-use Rattle.script.specs.declared.words.Numeral.TheVariants.{Unreadable, Reads}
 use Rattle.script.specs.Words.{up_to, past}
 use Rattle.script.specs.Lines.{line_of, stations_of}
 use Rattle.script.specs.Decimal.{step_line, station_line, way_line, total_line}
@@ -41,9 +39,9 @@ run_from (suc lines) t n (b ∷ bs) =
 abbrev pub started : Stepped → List ℕ → List ℕ
 started made rest = if_done made.answer (run_from (length rest) made.table 1 rest) (step_line 0 made.answer 0)
 
-abbrev pub opened_by : Numeral → List ℕ → List ℕ
-opened_by Unreadable rest = step_line 0 bad_line 0
-opened_by (Reads count) rest = started (fresh_table_of count) rest
+abbrev pub opened_by : Option ℕ → List ℕ → List ℕ
+opened_by None rest = step_line 0 bad_line 0
+opened_by (Some count) rest = started (fresh_table_of count) rest
 
 unfoldable pub output_of : List ℕ → List ℕ
 output_of script = cond (ltb most_bytes (length script)) (step_line 0 long_script 0) (opened_by (stations_of (up_to 10 script)) (past 10 script))

@@ -1,14 +1,15 @@
 -- What starting a script does, and the line of a script that is refused.
-use Rattle.std.specs.Prelude.{ℕ, ◌≡◌, Bool, true, false, cond, not, List, [], ◌∷◌, ltb, length}
+use Rattle.std.specs.Prelude.{ℕ, ◌≡◌, Bool, true, false, cond, not, List, [], ◌∷◌, ltb, length, Option, Some, None, Result, Ok, Err}
 use Rattle.std.proofs.lemmas.List.Edits.{sets}
 use Rattle.ground.specs.Answers.{done, not_sound, bad_line, long_script, short_buffer}
 use Rattle.ground.specs.Refusals.{Refusal, when, answer_of}
 use Rattle.ground.specs.Choice.{if_done}
+use Rattle.ground.specs.Tested.{number_of}
+use Rattle.ground.specs.declared.refusal.Refusal.{Refusal as Why}
 use Rattle.station.specs.Sound.{count_sound}
 use Rattle.table.specs.declared.stepped.Stepped.{Stepped}
 use Rattle.table.specs.Fresh.{blank_table, fresh_table_of}
-use Rattle.script.specs.declared.words.Numeral.{Numeral}
-use Rattle.script.specs.declared.words.Numeral.TheVariants.{Unreadable, Reads}
+use Rattle.script.specs.declared.starting.Run.{Run}
 use Rattle.script.specs.declared.starting.Started.{Started}
 use Rattle.ground.specs.declared.told.Told.{Told}
 use Rattle.script.specs.Decimal.{step_line}
@@ -27,18 +28,18 @@ start_with made at =
     (record { answer = done; result = 0; run = record { table = made.table; at = at; number = 1; finished = false } })
     (not_started made.answer)
 
-abbrev pub start_for : Numeral → ℕ → Started
-start_for Unreadable at = not_started bad_line
-start_for (Reads count) at = start_with (fresh_table_of count) at
+abbrev pub start_for : Option ℕ → ℕ → Started
+start_for None at = not_started bad_line
+start_for (Some count) at = start_with (fresh_table_of count) at
 
 -- the first line names no number of stations, or one that no table has
-abbrev pub names_none : Numeral → Bool
-names_none Unreadable = true
-names_none (Reads count) = false
+abbrev pub names_none : Option ℕ → Bool
+names_none None = true
+names_none (Some count) = false
 
-abbrev pub names_bad : Numeral → Bool
-names_bad Unreadable = false
-names_bad (Reads count) = not (count_sound count)
+abbrev pub names_bad : Option ℕ → Bool
+names_bad None = false
+names_bad (Some count) = not (count_sound count)
 
 abbrev pub start_refusals : List ℕ → List Refusal
 start_refusals script =
@@ -48,6 +49,11 @@ start_refusals script =
 -- refused by 13, 12, 1
 unfoldable pub started_of : List ℕ → Started
 started_of script = cond (ltb most_bytes (length script)) (not_started long_script) (start_for (stations_of (line_at script 0)) (past_line script 0))
+
+-- a run before its first step, or why there is none
+abbrev pub started_with : Result Run Why → Started
+started_with (Ok run) = record { answer = done; result = 0; run = run }
+started_with (Err why) = not_started (number_of why)
 
 -- `0 13 0` and its like
 abbrev pub answer_line : ℕ → List ℕ

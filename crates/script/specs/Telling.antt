@@ -1,12 +1,12 @@
 -- What steps are said to have done: a line for each, with its number, its answer and its result.
-use Rattle.std.specs.Prelude.{ℕ, zero, suc, ◌+◌, List, [], ◌∷◌, ◌++◌, get_or, drop}
-use Rattle.steps.specs.declared.asked.Asked.{Asked}
+use Rattle.std.specs.Prelude.{ℕ, zero, suc, ◌+◌, List, [], ◌∷◌, ◌++◌, get_or, drop, Option}
+use Rattle.steps.specs.declared.asked.Step.{Step}
 use Rattle.table.specs.declared.table.Table.{Table}
 use Rattle.steps.specs.Running.{asked_step}
 use Rattle.script.specs.Decimal.{step_line}
 
 -- one after the other from a table on, numbered from n
-unfoldable pub lines_of_steps : ℕ → Table → List Asked → List ℕ
+unfoldable pub lines_of_steps : ℕ → Table → List (Option Step) → List ℕ
 lines_of_steps n t [] = []
 lines_of_steps n t (x ∷ xs) = let s = asked_step t x in step_line n s.answer s.result ++ lines_of_steps (n + 1) s.table xs
 

@@ -1,7 +1,5 @@
 -- Bytes cut at a byte, and a number in decimal digits.
-use Rattle.std.specs.Prelude.{ℕ, suc, ◌+◌, ◌-◌, ◌*◌, Bool, true, false, cond, not, ◌&&◌, List, [], ◌∷◌, eqb, leb, length, take, drop}
-use Rattle.script.specs.declared.words.Numeral.{Numeral}
-use Rattle.script.specs.declared.words.Numeral.TheVariants.{Unreadable, Reads}
+use Rattle.std.specs.Prelude.{ℕ, suc, ◌+◌, ◌-◌, ◌*◌, Bool, true, false, cond, not, ◌&&◌, List, [], ◌∷◌, eqb, leb, length, take, drop, Option, Some, None}
 
 -- where a byte stands first; the length where it does not
 abbrev pub index_of : ℕ → List ℕ → ℕ
@@ -37,8 +35,8 @@ no_leading_zero (b ∷ c ∷ bs) = not (eqb b 48)
 abbrev pub is_numeral : List ℕ → Bool
 is_numeral word = leb 1 (length word) && leb (length word) 10 && all_digits word && no_leading_zero word
 
-unfoldable pub numeral_of : List ℕ → Numeral
-numeral_of word = cond (is_numeral word) (Reads (value_from 0 word)) Unreadable
+unfoldable pub numeral_of : List ℕ → Option ℕ
+numeral_of word = cond (is_numeral word) (Some (value_from 0 word)) None
 
 -- the same bytes
 abbrev pub same_bytes : List ℕ → List ℕ → Bool

@@ -3,74 +3,57 @@ ghost use Rattle.std.specs.Prelude.{◌≡◌};
 ghost use Rattle.script.specs.Lines.{line_by, line_of, stations_of};
 ghost use Rattle.script.specs.Parts.{pair_of};
 
-use crate::words::{Numeral, numeral_of, rest_of, same_bytes, word_of};
-use steps::asked::{Asked, Step};
-
-// What two words read as.
-#[derive(Clone, Copy)]
-enum Pair {
-    NoPair,
-    Both(u64, u64),
-}
+use crate::words::{cut_at, numeral_of};
+use steps::asked::Step;
 
 // Two numbers with a space between.
-fn pair_of(words: &[u8]) -> Pair
+fn pair_of(words: &[u8]) -> Option<(u64, u64)>
     ensures { result ≡ pair_of words.now }
 {
-    let Numeral::Reads(n) = numeral_of(word_of(words)) else {
-        return Pair::NoPair;
-    };
-    let Numeral::Reads(k) = numeral_of(rest_of(words)) else {
-        return Pair::NoPair;
-    };
-    Pair::Both(n, k)
+    let (first, second) = cut_at(b' ', words);
+    Some((numeral_of(first)?, numeral_of(second)?))
 }
 
-// The step of a word and what stands behind it. The words of one number come first: past them a
-// line without two is none.
-fn line_by(word: &[u8], rest: &[u8]) -> Asked
+// The step of a word and what stands behind it.
+#[tactic(auto, using(crate::proofs::Sameness::same_is))]
+fn line_by(word: &[u8], rest: &[u8]) -> Option<Step>
     ensures { result ≡ line_by word.now rest.now }
 {
-    if same_bytes(word, b"deliver") {
-        let Numeral::Reads(place) = numeral_of(rest) else {
-            return Asked::NoStep;
-        };
-        return Asked::OneStep(Step::Deliver(place));
+    if word == b"add".as_slice() {
+        return pair_of(rest).map(|(k, amount)| Step::Add(k, amount));
     }
-    if same_bytes(word, b"lose") {
-        let Numeral::Reads(place) = numeral_of(rest) else {
-            return Asked::NoStep;
-        };
-        return Asked::OneStep(Step::Lose(place));
+    if word == b"draw".as_slice() {
+        return pair_of(rest).map(|(k, amount)| Step::Draw(k, amount));
     }
-    let Pair::Both(n, k) = pair_of(rest) else {
-        return Asked::NoStep;
-    };
-    if same_bytes(word, b"add") {
-        return Asked::OneStep(Step::Add(n, k));
+    if word == b"send".as_slice() {
+        return pair_of(rest).map(|(from, to)| Step::Send(from, to));
     }
-    if same_bytes(word, b"draw") {
-        return Asked::OneStep(Step::Draw(n, k));
+    if word == b"deliver".as_slice() {
+        return numeral_of(rest).map(Step::Deliver);
     }
-    if same_bytes(word, b"send") {
-        return Asked::OneStep(Step::Send(n, k));
+    if word == b"lose".as_slice() {
+        return numeral_of(rest).map(Step::Lose);
     }
-    Asked::NoStep
+    None
 }
 
 // The step that a line asks for.
-pub(crate) fn line_of(line: &[u8]) -> Asked
+#[tactic(auto, unfolding(crate::specs::Lines::line_of))]
+pub(crate) fn line_of(line: &[u8]) -> Option<Step>
     ensures { result ≡ line_of line.now }
 {
-    line_by(word_of(line), rest_of(line))
+    let (word, rest) = cut_at(b' ', line);
+    line_by(word, rest)
 }
 
 // The number of stations that a line gives.
-pub(crate) fn stations_of(line: &[u8]) -> Numeral
+#[tactic(auto, using(crate::proofs::Sameness::same_is), unfolding(crate::specs::Lines::stations_of))]
+pub(crate) fn stations_of(line: &[u8]) -> Option<u64>
     ensures { result ≡ stations_of line.now }
 {
-    if same_bytes(word_of(line), b"stations") {
-        return numeral_of(rest_of(line));
+    let (word, rest) = cut_at(b' ', line);
+    if word == b"stations".as_slice() {
+        return numeral_of(rest);
     }
-    Numeral::Unreadable
+    None
 }

@@ -10,7 +10,8 @@ use crate::limits::{CLOSING_ROOM, MOST_AT_ONCE, MOST_BYTES, STEP_ROOM};
 use crate::reading::read_lines;
 use crate::starting::Run;
 use crate::telling::put_told;
-use ground::answers;
+use ground::answers::DONE;
+use ground::refusal::Refusal;
 use table::sound::table_is_sound;
 
 // The numbered answer, how many bytes were put, and the run past what was put.
@@ -25,8 +26,7 @@ pub struct PutLines {
 fn run_is_sound(run: Run) -> bool
     ensures { result ≡ run_sound run }
 {
-    let table = run.table;
-    table_is_sound(table) & (run.number <= MOST_BYTES as u64)
+    table_is_sound(run.table) && run.number <= MOST_BYTES as u64
 }
 
 // Nothing is put, and the run stays as it is.
@@ -44,25 +44,14 @@ fn stay(answer: u8, run: Run) -> PutLines
 fn at_once(room: usize) -> usize
     ensures { result ≡ at_once room }
 {
-    let lines = room / STEP_ROOM;
-    if lines < MOST_AT_ONCE {
-        lines
-    } else {
-        MOST_AT_ONCE
-    }
+    (room / STEP_ROOM).min(MOST_AT_ONCE)
 }
 
-// Three numbers for each of 1,024 lines, and five for each of 1,024 steps.
-fn codes_buffer() -> [u64; 3072]
-    ensures { 3072 ≡ length result }
+// So that a proof sees how many there are, and not each of them.
+fn zeros<const N: usize>() -> [u64; N]
+    ensures { N ≡ length result }
 {
-    [0; 3072]
-}
-
-fn told_buffer() -> [u64; 5120]
-    ensures { 5120 ≡ length result }
-{
-    [0; 5120]
+    [0; N]
 }
 
 // The lines of the next steps: lines to numbers, numbers to what was told, and that to lines.
@@ -70,25 +59,21 @@ fn put_steps(script: &[u8], run: Run, out: &mut [u8]) -> PutLines
     requires { run_sound run ≡ true }
     ensures { (result ≡ piece_told (steps_piece script.now run (at_once (length out.old)))) × (out.new ≡ sets out.old 0 (steps_piece script.now run (at_once (length out.old))).bytes) }
 {
-    let mut codes = codes_buffer();
-    let mut told = told_buffer();
+    // three numbers for each of 1,024 lines, and five for each of 1,024 steps
+    let mut codes = zeros::<3072>();
+    let mut told = zeros::<5120>();
     let read = read_lines(script, run.at, at_once(out.len()), &mut codes);
-    let lines = read.lines;
-    let end = 3 * lines;
-    let before = run.table;
-    let ran = steps::run(before, &codes[..end], &mut told);
-    let size = put_told(&told, lines, run.number, out);
-    let table = ran.table;
-    let next = Run {
-        table,
-        at: read.at,
-        number: run.number + lines as u64,
-        finished: false,
-    };
+    let ran = steps::run(run.table, &codes[..3 * read.lines], &mut told);
+    let size = put_told(&told, read.lines, run.number, out);
     PutLines {
-        answer: answers::DONE,
+        answer: DONE,
         result: size as u64,
-        run: next,
+        run: Run {
+            table: ran.table,
+            at: read.at,
+            number: run.number + read.lines as u64,
+            finished: false,
+        },
     }
 }
 
@@ -97,18 +82,14 @@ fn put_end(run: Run, out: &mut [u8]) -> PutLines
     requires { (run_sound run ≡ true) × (closing_room ≤ length out.old) }
     ensures { (result ≡ piece_told (closing_piece run)) × (out.new ≡ sets out.old 0 (closing_piece run).bytes) }
 {
-    let table = run.table;
-    let size = put_closing(out, table);
-    let next = Run {
-        table,
-        at: run.at,
-        number: run.number,
-        finished: true,
-    };
+    let size = put_closing(out, run.table);
     PutLines {
-        answer: answers::DONE,
+        answer: DONE,
         result: size as u64,
-        run: next,
+        run: Run {
+            finished: true,
+            ..run
+        },
     }
 }
 
@@ -117,13 +98,13 @@ pub fn put_lines(script: &[u8], run: Run, out: &mut [u8]) -> PutLines
     ensures { PutsLines script.now run out.old result out.new }
 {
     if !run_is_sound(run) {
-        return stay(answers::NOT_SOUND, run);
+        return stay(Refusal::NotSound.number(), run);
     }
     if out.len() < CLOSING_ROOM {
-        return stay(answers::SHORT_BUFFER, run);
+        return stay(Refusal::ShortBuffer.number(), run);
     }
     if run.finished {
-        return stay(answers::DONE, run);
+        return stay(DONE, run);
     }
     if run.at < script.len() {
         return put_steps(script, run, out);

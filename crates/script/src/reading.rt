@@ -6,49 +6,36 @@ ghost use Rattle.steps.specs.Running.{numbers_for};
 ghost use Rattle.script.specs.Reading.{line_at, lines_from, numbers_for_all, past_line, lines_read};
 
 use crate::lines::line_of;
-use crate::words::index_of;
-use steps::asked::{Asked, numbers_for};
+use crate::words::cut_at;
+use steps::asked::{Step, numbers_for};
 
 // What is left of a script from a position on.
 fn left_from(script: &[u8], at: usize) -> &[u8]
     ensures { result.now ≡ drop at script.now }
 {
-    if at < script.len() {
-        return &script[at..];
-    }
-    &script[..0]
+    &script[at.min(script.len())..]
 }
 
 // The line that starts at a position, without its line end.
 pub(crate) fn line_at(script: &[u8], at: usize) -> &[u8]
     ensures { result.now ≡ line_at script.now at }
 {
-    let rest = left_from(script, at);
-    let end = index_of(10, rest);
-    &rest[..end]
+    cut_at(b'\n', left_from(script, at)).0
 }
 
 // The position past the line that starts at a position.
 pub(crate) fn past_line(script: &[u8], at: usize) -> usize
     ensures { result ≡ past_line script.now at }
 {
-    let rest = left_from(script, at);
-    let end = index_of(10, rest);
-    if end < rest.len() {
-        return at + end + 1;
-    }
-    script.len()
+    script.len() - cut_at(b'\n', left_from(script, at)).1.len()
 }
 
 // The numbers of what is asked for, put from a place on.
-fn put_asked(codes: &mut [u64], at: usize, asked: Asked)
+fn put_asked(codes: &mut [u64], at: usize, asked: Option<Step>)
     requires { at + 3 ≤ length codes.old }
     ensures { codes.new ≡ sets codes.old at (numbers_for asked) }
 {
-    let numbers = numbers_for(asked);
-    codes[at] = numbers[0];
-    codes[at + 1] = numbers[1];
-    codes[at + 2] = numbers[2];
+    codes[at..at + 3].copy_from_slice(&numbers_for(asked));
 }
 
 // How many lines were read, and the position past them.
@@ -64,11 +51,12 @@ pub(crate) fn read_lines(script: &[u8], start: usize, most: usize, codes: &mut [
     ensures { (result ≡ lines_read most script.now start) × (codes.new ≡ sets codes.old 0 (numbers_for_all (lines_from most script.now start))) }
 {
     let mut at = start;
-    let mut lines: usize = 0;
-    while (lines < most) & (at < script.len()) {
+    for lines in 0..most {
+        if script.len() <= at {
+            return Read { lines, at };
+        }
         put_asked(codes, 3 * lines, line_of(line_at(script, at)));
         at = past_line(script, at);
-        lines = lines + 1;
     }
-    Read { lines, at }
+    Read { lines: most, at }
 }

@@ -1,14 +1,16 @@
 // A script started: its first line read, and the run that its other lines are done in.
 ghost use Rattle.std.specs.Prelude.{◌≡◌};
-ghost use Rattle.script.specs.Starting.{not_started, PutsAnswer, started_of};
+ghost use Rattle.ground.specs.Tested.{number_of};
+ghost use Rattle.script.specs.Starting.{not_started, PutsAnswer, started_of, started_with};
 
 use crate::limits::{MOST_BYTES, STEP_ROOM};
 use crate::lines::stations_of;
-use crate::printing::put_says;
+use crate::printing::Page;
 use crate::reading::{line_at, past_line};
-use crate::words::Numeral;
-use ground::answers;
+use ground::answers::DONE;
+use ground::refusal::Refusal;
 use ground::told::Told;
+use station::sound::count_is_sound;
 use table::fresh::fresh_table;
 use table::table::Table;
 
@@ -29,23 +31,41 @@ pub struct Started {
     pub run: Run,
 }
 
-// A script that is refused. No station is a bad count, so that the table is the one of such a
-// refusal.
-fn not_started(answer: u8) -> Started
-    ensures { result ≡ not_started answer }
+// The run of a script before its first step: refused by 13, 12, 1.
+#[tactic(auto, unfolding(crate::specs::Starting::started_of))]
+fn begin(script: &[u8]) -> Result<Run, Refusal>
+    ensures { started_with result ≡ started_of script.now }
 {
-    let none = fresh_table(0);
-    let table = none.table;
-    let run = Run {
-        table,
-        at: 0,
-        number: 0,
-        finished: true,
-    };
+    if MOST_BYTES < script.len() {
+        return Err(Refusal::LongScript);
+    }
+    let count = stations_of(line_at(script, 0)).ok_or(Refusal::BadLine)?;
+    if !count_is_sound(count) {
+        return Err(Refusal::NotSound);
+    }
+    Ok(Run {
+        table: fresh_table(count).table,
+        at: past_line(script, 0),
+        number: 1,
+        finished: false,
+    })
+}
+
+// A script that is refused hands back every number 0 and nothing held: no station is a bad count,
+// so that the table is the one of such a refusal.
+#[tactic(auto, unfolding(table::specs::Fresh::fresh_table_of))]
+fn not_started(refusal: Refusal) -> Started
+    ensures { result ≡ not_started (number_of refusal) }
+{
     Started {
-        answer,
+        answer: refusal.number(),
         result: 0,
-        run,
+        run: Run {
+            table: fresh_table(0).table,
+            at: 0,
+            number: 0,
+            finished: true,
+        },
     }
 }
 
@@ -53,27 +73,13 @@ fn not_started(answer: u8) -> Started
 pub fn start(script: &[u8]) -> Started
     ensures { result ≡ started_of script.now }
 {
-    if MOST_BYTES < script.len() {
-        return not_started(answers::LONG_SCRIPT);
-    }
-    let Numeral::Reads(count) = stations_of(line_at(script, 0)) else {
-        return not_started(answers::BAD_LINE);
-    };
-    let made = fresh_table(count);
-    if made.answer != answers::DONE {
-        return not_started(made.answer);
-    }
-    let table = made.table;
-    let run = Run {
-        table,
-        at: past_line(script, 0),
-        number: 1,
-        finished: false,
-    };
-    Started {
-        answer: answers::DONE,
-        result: 0,
-        run,
+    match begin(script) {
+        Ok(run) => Started {
+            answer: DONE,
+            result: 0,
+            run,
+        },
+        Err(refusal) => not_started(refusal),
     }
 }
 
@@ -84,13 +90,14 @@ pub fn put_answer(answer: u8, out: &mut [u8]) -> Told
 {
     if out.len() < STEP_ROOM {
         return Told {
-            answer: answers::SHORT_BUFFER,
+            answer: Refusal::ShortBuffer.number(),
             result: 0,
         };
     }
-    let size = put_says(out, 0, 0, answer as u64, 0);
+    let mut page = Page::new(out);
+    page.says(0, u64::from(answer), 0);
     Told {
-        answer: answers::DONE,
-        result: size as u64,
+        answer: DONE,
+        result: page.at as u64,
     }
 }

@@ -3,7 +3,7 @@ ghost use Rattle.std.specs.Prelude.{◌≡◌, ◌+◌, ◌*◌, ◌^◌, ◌<�
 ghost use Rattle.std.proofs.lemmas.List.Edits.{sets};
 ghost use Rattle.script.specs.Telling.{lines_of_told};
 
-use crate::printing::put_says;
+use crate::printing::Page;
 
 // The lines of so many steps, numbered from the first one's number on. Answers how many bytes were
 // put.
@@ -11,11 +11,9 @@ pub(crate) fn put_told(told: &[u64], steps: usize, first: u64, out: &mut [u8]) -
     requires { (5 * steps ≤ length told.now) × (64 * steps ≤ length out.old) × (first + steps < 2 ^ 64) }
     ensures { (result ≡ length (lines_of_told steps first told.now)) × (out.new ≡ sets out.old 0 (lines_of_told steps first told.now)) }
 {
-    let mut size: usize = 0;
-    let mut k: usize = 0;
-    while k < steps {
-        size = put_says(out, size, first + k as u64, told[5 * k], told[5 * k + 1]);
-        k = k + 1;
+    let mut page = Page::new(out);
+    for k in 0..steps {
+        page.says(first + k as u64, told[5 * k], told[5 * k + 1]);
     }
-    size
+    page.at
 }

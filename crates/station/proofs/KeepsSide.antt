@@ -1,15 +1,14 @@
 -- The five rules keep a side sound and turn neither of its clocks back. Assumes nothing.
+use Rattle.std.proofs.Common.{Option, Some, None}
 use Prim.Native.Nat.{ℕ, ◌+◌, ◌≤◌, min}
 use mathlib.Core.Path.{◌≡◌, refl}
 use mathlib.Core.Bool.{Bool, true, false, cond, ◌&&◌, and-false}
 use native.Mathlib.Omega.{arith}
+use Rattle.rules.specs.declared.held.Token.{Token}
+use Rattle.rules.specs.declared.held.Slot.{Slot}
 use lib.Dec.{eqb, ltb, leb}
 use borrow.Author.Tests.{ltb-true, eqb-true, lt-ltb, le-leb}
 use Rattle.ground.specs.declared.clocks.DestinationClock.{DestinationClock}
-use Rattle.rules.specs.declared.held.HeldSlot.{HeldSlot}
-use Rattle.rules.specs.declared.held.HeldSlot.TheVariants.{NoSlot, OneSlot}
-use Rattle.rules.specs.declared.held.HeldToken.{HeldToken}
-use Rattle.rules.specs.declared.held.HeldToken.TheVariants.{NoToken, OneToken}
 use Rattle.rules.specs.declared.message.Message.{Message}
 use Rattle.rules.specs.declared.side.Side.{Side}
 use Rattle.ground.specs.Limits.{most_value, last_clock}
@@ -40,31 +39,31 @@ module _ {o x : Side} (w : SoundSide o x) where
   ruled false q y f = w
 
   -- rules 1 and 2 leave no slot
-  without_slot : (v : ℕ) → v ≤ most_value → SoundSide o (put_slot (put_value x v) NoSlot)
+  without_slot : (v : ℕ) → v ≤ most_value → SoundSide o (put_slot (put_value x v) None)
   without_slot v h = record { value = h; source = w.source; destination = w.destination; slot = refl; token = w.token }
 
-  fill_keeps : (g : HeldToken) (h : HeldSlot) → (fill_by x g h).side.value ≤ most_value → SoundSide o (fill_by x g h).side
-  fill_keeps NoToken h room = w
-  fill_keeps (OneToken t) NoSlot room = w
-  fill_keeps (OneToken t) (OneSlot l) room = ruled (agree t l) _ _ (λ e. without_slot (x.value + t.quantity) (rw e at room))
+  fill_keeps : (g : Option Token) (h : Option Slot) → (fill_by x g h).side.value ≤ most_value → SoundSide o (fill_by x g h).side
+  fill_keeps None h room = w
+  fill_keeps (Some t) None room = w
+  fill_keeps (Some t) (Some l) room = ruled (agree t l) _ _ (λ e. without_slot (x.value + t.quantity) (rw e at room))
 
-  drop_slot_keeps : (m : Message) (h : HeldSlot) → SoundSide o (drop_slot_by x m h).side
-  drop_slot_keeps m NoSlot = w
-  drop_slot_keeps m (OneSlot l) = ruled (ltb l.source.0 m.source.0) _ _ (λ e. without_slot x.value w.value)
+  drop_slot_keeps : (m : Message) (h : Option Slot) → SoundSide o (drop_slot_by x m h).side
+  drop_slot_keeps m None = w
+  drop_slot_keeps m (Some l) = ruled (ltb l.source.0 m.source.0) _ _ (λ e. without_slot x.value w.value)
 
-  drop_token_keeps : (shown : DestinationClock) (g : HeldToken) → SoundSide o (drop_token_by x shown g).side
-  drop_token_keeps shown NoToken = w
-  drop_token_keeps shown (OneToken t) =
+  drop_token_keeps : (shown : DestinationClock) (g : Option Token) → SoundSide o (drop_token_by x shown g).side
+  drop_token_keeps shown None = w
+  drop_token_keeps shown (Some t) =
       ruled (ltb t.destination.0 shown.0) _ _
       (λ e. record { value = w.value; source = w.source; destination = w.destination; slot = w.slot; token = refl })
 
   -- the slot opened bears the destination clock that then goes up, so it lies below the new one
-  open_slot_keeps : (m : Message) → SoundMessage m → (q : ℕ) → q ≤ most_value → (h : HeldSlot) → SoundSide o (open_slot_by x m q h).side
-  open_slot_keeps m shows q fits (OneSlot l) = w
-  open_slot_keeps m shows q fits NoSlot =
+  open_slot_keeps : (m : Message) → SoundMessage m → (q : ℕ) → q ≤ most_value → (h : Option Slot) → SoundSide o (open_slot_by x m q h).side
+  open_slot_keeps m shows q fits (Some l) = w
+  open_slot_keeps m shows q fits None =
       ruled (leb 1 q && ltb x.destination.0 last_clock) _ _
       (λ e.
-      let some = needed (leb 1 q) (λ f. rw f at e) in
+      let Some = needed (leb 1 q) (λ f. rw f at e) in
       let runs = needed (ltb x.destination.0 last_clock) (λ f. simp (f, and-false) at e) in
       let early = ltb-true x.destination.0 last_clock runs in
       rw runs
@@ -72,15 +71,15 @@ module _ {o x : Side} (w : SoundSide o x) where
         value = w.value;
         source = w.source;
         destination = (omega arith, omega arith);
-        slot = rw (some, le-leb _ _ fits, le-leb _ _ shows.source, lt-ltb x.destination.0 (x.destination.0 + 1) (omega arith));
+        slot = rw (Some, le-leb _ _ fits, le-leb _ _ shows.source, lt-ltb x.destination.0 (x.destination.0 + 1) (omega arith));
         token = w.token;
       }))
 
   -- the token made bears the source clock that then goes up, and a destination clock below the one
   -- that the message shows
-  make_token_keeps : (m : Message) → SoundMessage m → (h : HeldSlot) → slot_sound h m.destination ≡ true → SoundSide o (make_token_by x h).side
-  make_token_keeps m shows NoSlot sound = w
-  make_token_keeps m shows (OneSlot l) sound =
+  make_token_keeps : (m : Message) → SoundMessage m → (h : Option Slot) → slot_sound h m.destination ≡ true → SoundSide o (make_token_by x h).side
+  make_token_keeps m shows None sound = w
+  make_token_keeps m shows (Some l) sound =
       ruled (eqb l.source.0 x.source.0 && ltb x.source.0 last_clock) _ _
       (λ e.
       let same = eqb-true l.source.0 x.source.0 (needed (eqb l.source.0 x.source.0) (λ f. rw f at e)) in

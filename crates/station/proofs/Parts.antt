@@ -1,12 +1,12 @@
 -- Soundness of a station and of a message, part by part. Assumes nothing.
+use Rattle.std.proofs.Common.{Option, Some, None}
 use Prim.Native.Nat.{ℕ, ◌<◌, ◌≤◌}
 use mathlib.Core.Path.{◌≡◌, refl}
 use mathlib.Core.Bool.{true, ◌||◌, not, and-false}
+use Rattle.rules.specs.declared.held.Token.{Token}
 use lib.Dec.{ltb, leb, eqb}
 use borrow.Author.Tests.{ltb-true, leb-true, lt-ltb, le-leb, eqb-false, not-true}
 use Rattle.ground.specs.declared.clocks.SourceClock.{SourceClock}
-use Rattle.rules.specs.declared.held.HeldToken.{HeldToken}
-use Rattle.rules.specs.declared.held.HeldToken.TheVariants.{NoToken, OneToken}
 use Rattle.station.specs.declared.station.Station.{Station}
 use Rattle.rules.specs.declared.message.Message.{Message}
 use Rattle.ground.specs.Limits.{most_stations, most_intake, most_value, last_clock}
@@ -88,10 +88,10 @@ message_parts m e =
       token = needed (token_sound m.token m.source) (λ f. simp (f, and-false) at e);
     }
 
-pub token_fits_lem : (h : HeldToken) (clock : SourceClock) → token_sound h clock ≡ true → TokenInRange h
-token_fits_lem NoToken clock e = tt
-token_fits_lem (OneToken t) clock e = leb-true _ _ (needed (leb t.quantity most_value) (λ f. simp f at e))
+pub token_fits_lem : (h : Option Token) (clock : SourceClock) → token_sound h clock ≡ true → TokenInRange h
+token_fits_lem None clock e = tt
+token_fits_lem (Some t) clock e = leb-true _ _ (needed (leb t.quantity most_value) (λ f. simp f at e))
 
-pub token_small_lem : (h : HeldToken) (clock : SourceClock) → token_sound h clock ≡ true → token_small h ≡ true
-token_small_lem NoToken clock e = refl
-token_small_lem (OneToken t) clock e = needed (leb t.quantity most_value) (λ f. simp f at e)
+pub token_small_lem : (h : Option Token) (clock : SourceClock) → token_sound h clock ≡ true → token_small h ≡ true
+token_small_lem None clock e = refl
+token_small_lem (Some t) clock e = needed (leb t.quantity most_value) (λ f. simp f at e)

@@ -1,11 +1,9 @@
 -- When a station is sound, and when a message is.
-use Rattle.std.specs.Prelude.{ℕ, Bool, true, false, ◌&&◌, ◌||◌, not, ltb, leb, eqb}
+use Rattle.std.specs.Prelude.{ℕ, Bool, true, false, ◌&&◌, ◌||◌, not, ltb, leb, eqb, Option, Some, None}
+use Rattle.rules.specs.declared.held.Token.{Token}
+use Rattle.rules.specs.declared.held.Slot.{Slot}
 use Rattle.ground.specs.declared.clocks.SourceClock.{SourceClock}
 use Rattle.ground.specs.declared.clocks.DestinationClock.{DestinationClock}
-use Rattle.rules.specs.declared.held.HeldSlot.{HeldSlot}
-use Rattle.rules.specs.declared.held.HeldSlot.TheVariants.{NoSlot, OneSlot}
-use Rattle.rules.specs.declared.held.HeldToken.{HeldToken}
-use Rattle.rules.specs.declared.held.HeldToken.TheVariants.{NoToken, OneToken}
 use Rattle.station.specs.declared.station.Station.{Station}
 use Rattle.rules.specs.declared.message.Message.{Message}
 use Rattle.ground.specs.Limits.{least_stations, most_stations, most_intake, most_value}
@@ -14,20 +12,20 @@ use Rattle.station.specs.Held.{slot_for, token_for}
 use Rattle.ground.specs.Below.{all_below}
 
 -- a slot's quantity is at least 1, and its destination clock is below its holder's
-abbrev pub slot_sound : HeldSlot → DestinationClock → Bool
-slot_sound NoSlot clock = true
-slot_sound (OneSlot l) clock = leb 1 l.quantity && leb l.quantity most_value && (clock_sound l.source.0 && ltb l.destination.0 clock.0)
+abbrev pub slot_sound : Option Slot → DestinationClock → Bool
+slot_sound None clock = true
+slot_sound (Some l) clock = leb 1 l.quantity && leb l.quantity most_value && (clock_sound l.source.0 && ltb l.destination.0 clock.0)
 
 -- a token's quantity may be 0, and its source clock is below its maker's
-abbrev pub token_sound : HeldToken → SourceClock → Bool
-token_sound NoToken clock = true
-token_sound (OneToken t) clock = leb t.quantity most_value && (clock_sound t.destination.0 && ltb t.source.0 clock.0)
+abbrev pub token_sound : Option Token → SourceClock → Bool
+token_sound None clock = true
+token_sound (Some t) clock = leb t.quantity most_value && (clock_sound t.destination.0 && ltb t.source.0 clock.0)
 
 -- neither a slot nor a token
-abbrev pub holds_nothing : HeldSlot → HeldToken → Bool
-holds_nothing NoSlot NoToken = true
-holds_nothing NoSlot (OneToken t) = false
-holds_nothing (OneSlot l) t = false
+abbrev pub holds_nothing : Option Slot → Option Token → Bool
+holds_nothing None None = true
+holds_nothing None (Some t) = false
+holds_nothing (Some l) t = false
 
 -- station k is another station of the table
 abbrev pub is_peer : Station → ℕ → Bool

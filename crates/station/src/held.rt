@@ -1,12 +1,5 @@
-// A station's place for the slot of one peer, and for its token.
-use rules::held::{HeldSlot, HeldToken};
-
+// A station's place for what it holds of one peer: a slot, or a token.
 #[derive(Clone, Copy)]
-pub struct SlotCell {
-    pub held: HeldSlot,
-}
-
-#[derive(Clone, Copy)]
-pub struct TokenCell {
-    pub held: HeldToken,
+pub struct PeerCell<T> {
+    pub held: Option<T>,
 }

@@ -1,7 +1,8 @@
 // A station by value.
-use crate::held::{SlotCell, TokenCell};
+use crate::held::PeerCell;
 use ground::clocks::{DestinationClock, SourceClock};
 use ground::limits::MOST_STATIONS;
+use rules::held::{Slot, Token};
 
 // Its own number and the count of stations, its value, its intake, its two clocks, and for every
 // peer at most one slot and at most one token.
@@ -13,6 +14,6 @@ pub struct Station {
     pub intake: u64,
     pub source: SourceClock,
     pub destination: DestinationClock,
-    pub slots: [SlotCell; MOST_STATIONS],
-    pub tokens: [TokenCell; MOST_STATIONS],
+    pub slots: [PeerCell<Slot>; MOST_STATIONS],
+    pub tokens: [PeerCell<Token>; MOST_STATIONS],
 }

@@ -1,34 +1,33 @@
 -- What the stations hold, in one row: a cell of it is what one station holds for another, and stays
--- so when a station is put anew. Assumes nothing.
+-- so when a station is put anew. No code keeps such a row. Assumes nothing.
+use Rattle.std.proofs.Common.{None}
 use Prim.Native.Nat.{ℕ, zero, suc, ◌+◌, ◌*◌, ◌/◌, ◌%◌, ◌<◌}
 use mathlib.Core.Path.{◌≡◌, refl, sym, ◌∙◌, ap}
 use mathlib.Core.Bool.{Bool, true, false}
 use mathlib.Core.List.{List}
 use native.Mathlib.Nat.{add-zero}
 use native.Mathlib.Omega.{arith}
+use Rattle.rules.specs.declared.held.Token.{Token}
+use Rattle.rules.specs.declared.held.Slot.{Slot}
 use lib.Dec.{eqb}
 use lib.ListN.{length, get_or, set, length-set}
 use lib.Seq.{ext_get_or, get_or-set_same, get_or-set_other}
 use borrow.Author.Tests.{eqb-true, eqb-false}
-use Rattle.rules.specs.declared.held.HeldSlot.TheVariants.{NoSlot}
-use Rattle.rules.specs.declared.held.HeldToken.TheVariants.{NoToken}
 use Rattle.rules.specs.declared.side.Side.{Side}
 use Rattle.ground.specs.Limits.{most_stations}
 use Rattle.ground.proofs.Stores.{stored}
 use Rattle.station.specs.declared.station.Station.{Station}
-use Rattle.station.specs.declared.held.SlotCell.{SlotCell}
-use Rattle.station.specs.declared.held.TokenCell.{TokenCell}
+use Rattle.station.specs.declared.held.PeerCell.{PeerCell}
 use Rattle.station.specs.Held.{no_slot, no_token, slot_for, token_for}
 use Rattle.station.specs.Side.{put_side}
-use Rattle.steps.specs.declared.cells.Cells.{Cells}
 use Rattle.steps.specs.declared.planning.Change.{Change}
 use Rattle.steps.specs.declared.planning.Change.TheVariants.{AtSide}
 use Rattle.table.specs.Table.{station_past_end, station_in}
-use Rattle.steps.specs.Cells.{cells_for, each_from, cell_at, cells_of}
+use Rattle.steps.specs.Cells.{Cells, cells_for, each_from, cell_at, cells_of}
 
 -- cells that hold nothing
 abbrev pub no_cells : Cells
-no_cells = record { slot = NoSlot; token = NoToken }
+no_cells = record { slot = None; token = None }
 
 module _ {A : Type 0} where
   pub each_length : (f : ℕ → A) (n i : ℕ) → length (each_from f n i) ≡ n
@@ -96,8 +95,8 @@ cells_put stations k j s h g e =
 -- another side to station j is seen by station j alone
 side_elsewhere : (s : Station) (j : ℕ) (x : Side) (i : ℕ) → (i ≡ j → ⊥) → cells_for (put_side s j x) i ≡ cells_for s i
 side_elsewhere s j x i f =
-    ap (λ (c : SlotCell). record { slot = c.held; token = token_for (put_side s j x) i }) (get_or-set_other s.slots j i (record { held = x.slot }) no_slot f)
-    ∙ ap (λ (c : TokenCell). record { slot = slot_for s i; token = c.held }) (get_or-set_other s.tokens j i (record { held = x.token }) no_token f)
+    ap (λ (c : PeerCell Slot). record { slot = c.held; token = token_for (put_side s j x) i }) (get_or-set_other s.slots j i (record { held = x.slot }) no_slot f)
+    ∙ ap (λ (c : PeerCell Token). record { slot = slot_for s i; token = c.held }) (get_or-set_other s.tokens j i (record { held = x.token }) no_token f)
 
 -- a station put back with another side to station j
 pub side_put : (stations : List Station) (k j : ℕ) {change : Change} {x : Side} (s : Station) → k < most_stations → j < most_stations → change ≡ AtSide x

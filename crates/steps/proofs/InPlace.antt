@@ -1,15 +1,15 @@
 -- A step done where the table is held: what its plan changes, by what it looked up, leaves the
 -- table that the step leaves, and tells what the step tells.
 -- Assumes nothing.
+use Rattle.std.proofs.Common.{Option, Some, None}
 use Prim.Native.Nat.{ℕ, zero, suc, ◌+◌, ◌<◌, ◌≤◌}
 use mathlib.Core.Path.{◌≡◌, refl}
 use mathlib.Core.Bool.{Bool, true, false, not, ◌&&◌}
 use mathlib.Core.List.{[], ◌∷◌}
 use native.Mathlib.Omega.{arith}
-use lib.Dec.{ltb, leb}
+use Rattle.steps.specs.declared.asked.Step.{Step}
+use lib.Dec.{ltb}
 use borrow.Author.Tests.{ltb-true, lt-ltb, le-leb, le-ltb, not-false}
-use Rattle.rules.specs.declared.held.HeldToken.{HeldToken}
-use Rattle.rules.specs.declared.held.HeldToken.TheVariants.{NoToken, OneToken}
 use Rattle.rules.specs.declared.message.Message.{Message}
 use Rattle.rules.specs.declared.stock.Stock.{Stock}
 use Rattle.ground.specs.Answers.{bad_amount, intake_limit, value_limit, too_few}
@@ -18,8 +18,8 @@ use Rattle.ground.specs.Refusals.{when, answer_of}
 use Rattle.rules.specs.Report.{no_report}
 use Rattle.rules.specs.Rules.{fill}
 use Rattle.rules.specs.Stock.{amount_sound, stocked, added_to, drawn_from, add_done, draw_done}
-use Rattle.rules.specs.Taking.{five_rules, refused_taking, taken_of, message_small, token_small}
-use Rattle.ground.proofs.Tests.{both_hold, needed}
+use Rattle.rules.specs.Taking.{five_rules, refused_taking, taken_of, message_small}
+use Rattle.ground.proofs.Tests.{both_hold}
 use Rattle.ground.proofs.Refusing.{passed}
 use Rattle.ground.specs.Choice.{if_done}
 use Rattle.station.specs.Side.{side_for}
@@ -28,10 +28,6 @@ use Rattle.station.specs.Steps.{message_for}
 use Rattle.station.proofs.Parts.{SoundStation, station_parts, message_parts}
 use Rattle.steps.specs.declared.planning.Change.TheVariants.{AtSide}
 use Rattle.steps.specs.declared.planning.Plan.{Plan}
-use Rattle.pool.specs.declared.places.Waiting.{Waiting}
-use Rattle.pool.specs.declared.places.Waiting.TheVariants.{Empty, One}
-use Rattle.steps.specs.declared.asked.Asked.{Asked}
-use Rattle.steps.specs.declared.asked.Asked.TheVariants.{NoStep, OneStep}
 use Rattle.steps.specs.declared.asked.Step.TheVariants.{Add, Draw, Send, Deliver, Lose}
 use Rattle.table.specs.declared.stepped.Stepped.{Stepped}
 use Rattle.table.specs.declared.table.Table.{Table}
@@ -50,11 +46,7 @@ use Rattle.table.proofs.Tables.{SoundTable, table_parts, waits}
 
 -- a sound message is in range
 small_message : (m : Message) → m.value ≤ most_value → token_sound m.token m.source ≡ true → message_small m ≡ true
-small_message m v e = rw (le-leb _ _ v) (by m.token e)
-  where
-    by : (h : HeldToken) → token_sound h m.source ≡ true → token_small h ≡ true
-    by NoToken e = refl
-    by (OneToken k) e = needed (leb k.quantity most_value) (λ f. simp f at e)
+small_message m v e = grind arith
 
 -- what a plan tells, and the table that it leaves
 abbrev pub stepped : Table → ℕ → ℕ → Plan → Stepped
@@ -63,13 +55,11 @@ stepped t k j p = record { answer = p.answer; result = p.result; report = p.repo
 -- a stock that is refused changes nothing, and one that is not is put
 stock_by : (t : Table) (k j n value intake : ℕ) (d : Stock) → d.answer ≡ 0 → let r = stocked n value intake d in
     stepped t k j (planned r.answer (stock_done r)) ≡ answered_step n t (did d.result no_report (changed t k j (stock_done d).change))
-stock_by t k j zero value intake d e = rw e
-stock_by t k j (suc n) value intake d e = refl
+stock_by t k j n value intake d e = grind arith
 
 -- a send that is not refused shows the sender's own message
-send_by : (t : Table) (k j n p : ℕ) (m m' : Message) → (n ≡ 0 → m ≡ m') → stepped t k j (planned n (place_plan p p (One m))) ≡ answered_step n t (send_step t p m')
-send_by t k j zero p m m' e = rw (e refl)
-send_by t k j (suc n) p m m' e = refl
+send_by : (t : Table) (k j n p : ℕ) (m m' : Message) → (n ≡ 0 → m ≡ m') → stepped t k j (planned n (place_plan p p (Some m))) ≡ answered_step n t (send_step t p m')
+send_by t k j n p m m' e = grind arith
 
 -- a delivery in which no rule acts leaves the table
 acted_by : (t : Table) (k j : ℕ) (m : Message) (b : Bool) → let r = five_rules (side_for (station_at t k) j) m in acted_in r.report ≡ b
@@ -149,17 +139,17 @@ module _ (t : Table) (sound : table_sound t ≡ true) where
       let p = lowest_empty t.pool in
       rw sound (send_by t _ _ (send_answer from to t.count p) p _ _ (send_message from to p))
 
-  deliver_placed : (p : ℕ) → let v = waiting_at t (below p most_places) in let l = seat_looked_at (OneStep (Deliver p)) v in
+  deliver_placed : (p : ℕ) → let v = waiting_at t (below p most_places) in let l = seat_looked_at (Some (Deliver p)) v in
       stepped t l.station l.peer (deliver_plan p v (side_for (station_at t l.station) l.peer)) ≡ step_of t (Deliver p)
   unfolding step_of taken_of
   deliver_placed p = by (ltb p most_places) (waiting_at t p) refl refl
     where
-      by : (b : Bool) (v : Waiting) → ltb p most_places ≡ b → waiting_at t p ≡ v → let v = waiting_at t (below p most_places) in
-          let l = seat_looked_at (OneStep (Deliver p)) v in
+      by : (b : Bool) (v : Option Message) → ltb p most_places ≡ b → waiting_at t p ≡ v → let v = waiting_at t (below p most_places) in
+          let l = seat_looked_at (Some (Deliver p)) v in
           stepped t l.station l.peer (deliver_plan p v (side_for (station_at t l.station) l.peer)) ≡ step_of t (Deliver p)
       by false v e f = rw (sound, e)
-      by true Empty e f = rw (sound, e, f)
-      by true (One m) e f =
+      by true None e f = rw (sound, e, f)
+      by true (Some m) e f =
           let there = waits m t.count (rw f at (whole.places p (ltb-true p most_places e))) in
           let s = station_at t m.to in
           let shows = message_parts m there.sound in
@@ -169,20 +159,15 @@ module _ (t : Table) (sound : table_sound t ≡ true) where
 
   lose_placed : (p k j : ℕ) → stepped t k j (lose_plan p (waiting_at t (below p most_places))) ≡ step_of t (Lose p)
   unfolding step_of
-  lose_placed p k j = by (ltb p most_places) (waiting_at t p) refl refl
-    where
-      by : (b : Bool) (v : Waiting) → ltb p most_places ≡ b → waiting_at t p ≡ v → stepped t k j (lose_plan p (waiting_at t (below p most_places))) ≡ step_of t (Lose p)
-      by false v e f = rw (sound, e)
-      by true Empty e f = rw (sound, e, f)
-      by true (One m) e f = rw (sound, e, f)
+  lose_placed p k j = grind arith
 
   -- whatever is asked for, by what it looked up
-  pub placed : (asked : Asked) → let v = waiting_at t (below (place_looked_at asked) most_places) in let free = free_for asked (flags_of t.pool) in
+  pub placed : (asked : Option Step) → let v = waiting_at t (below (place_looked_at asked) most_places) in let free = free_for asked (flags_of t.pool) in
       let l = seat_looked_at asked v in
       stepped t l.station l.peer (plan_at t.count asked (station_at t l.station).intake (side_for (station_at t l.station) l.peer) v free) ≡ asked_step t asked
-  placed NoStep = refl
-  placed (OneStep (Add k amount)) = add_placed k amount _
-  placed (OneStep (Draw k amount)) = draw_placed k amount _
-  placed (OneStep (Send from to)) = rw (lowest_flag t.pool) (send_placed from to)
-  placed (OneStep (Deliver p)) = deliver_placed p
-  placed (OneStep (Lose p)) = lose_placed p _ _
+  placed None = refl
+  placed (Some (Add k amount)) = add_placed k amount _
+  placed (Some (Draw k amount)) = draw_placed k amount _
+  placed (Some (Send from to)) = rw (lowest_flag t.pool) (send_placed from to)
+  placed (Some (Deliver p)) = deliver_placed p
+  placed (Some (Lose p)) = lose_placed p _ _

@@ -1,4 +1,5 @@
 -- Every step of a sound table leaves a sound table. Assumes nothing.
+use Rattle.std.proofs.Common.{Option, Some, None}
 use Prim.Native.Nat.{ℕ, zero, suc, ◌+◌, ◌-◌, ◌<◌, ◌≤◌}
 use mathlib.Core.Path.{◌≡◌, refl, sym, ◌∙◌}
 use mathlib.Core.Bool.{true, false, not, ◌&&◌}
@@ -15,10 +16,6 @@ use Rattle.ground.proofs.Refusing.{passed}
 use Rattle.station.specs.Steps.{put_stock, show_answer, message_for, receive_answer, receive_of}
 use Rattle.station.proofs.Keeps.{stock_sound_lem, message_sound_lem, receive_keeps}
 use Rattle.station.proofs.Parts.{station_parts}
-use Rattle.pool.specs.declared.places.Waiting.{Waiting}
-use Rattle.pool.specs.declared.places.Waiting.TheVariants.{Empty, One}
-use Rattle.steps.specs.declared.asked.Asked.{Asked}
-use Rattle.steps.specs.declared.asked.Asked.TheVariants.{NoStep, OneStep}
 use Rattle.steps.specs.declared.asked.Step.{Step}
 use Rattle.steps.specs.declared.asked.Step.TheVariants.{Add, Draw, Send, Deliver, Lose}
 use Rattle.table.specs.declared.table.Table.{Table}
@@ -60,7 +57,7 @@ module _ {t : Table} (w : SoundTable t) where
       rw (seat.sound, lt-ltb to (station_at t from).count (omega (arith, seat.count)), ne_eqb to (station_at t from).number (λ f. n (sym (f ∙ seat.number))))
 
   -- a message that waits and does not overfill is received by the station that it is for
-  pub received_there : (m : Message) → Waits m t.count → overfills t (One m) ≡ false → receive_answer (station_at t m.to) m ≡ 0
+  pub received_there : (m : Message) → Waits m t.count → overfills t (Some m) ≡ false → receive_answer (station_at t m.to) m ≡ 0
   received_there m there e =
       let seat = seat_of_lem w m.to there.to in
       rw (
@@ -72,7 +69,7 @@ module _ {t : Table} (w : SoundTable t) where
         e,
       )
 
-  taken_seated : (m : Message) → Waits m t.count → overfills t (One m) ≡ false → SoundTable (deliver_step t (One m)).table
+  taken_seated : (m : Message) → Waits m t.count → overfills t (Some m) ≡ false → SoundTable (deliver_step t (Some m)).table
   unfolding receive_of
   taken_seated m there e =
       let s = station_at t m.to in
@@ -105,19 +102,19 @@ module _ {t : Table} (w : SoundTable t) where
       let z = sends t from to e in
       let seat = seat_of_lem w from z.from_below in
       let shows = shows_peer z.from_below z.to_below z.other in
-      put_place_lem (lowest_empty t.pool) (One (message_for (station_at t from) to)) w
+      put_place_lem (lowest_empty t.pool) (Some (message_for (station_at t from) to)) w
       (place_whole (record { sound = message_sound_lem (station_at t from) to shows; from = omega (arith, seat.number, z.from_below); to = z.to_below }))
   done_keeps (Deliver p) e =
       let one = passed (not (table_sound t)) _ e in
       let two = passed (not (ltb p most_places)) _ one.1 in
       by (waiting_at t p) (w.places p (ltb-true _ _ (not-false _ two.0))) two.1
     where
-      by : (v : Waiting) → place_sound v t.count ≡ true
+      by : (v : Option Message) → place_sound v t.count ≡ true
           → answer_of (when (is_empty v) 8 ∷ when (overfills t v) 10 ∷ []) ≡ 0
           → SoundTable (deliver_step t v).table
-      by Empty s z = w
-      by (One m) s z = taken_seated m (waits m t.count s) (passed (overfills t (One m)) _ z).0
-  done_keeps (Lose p) e = put_place_lem p Empty w refl
+      by None s z = w
+      by (Some m) s z = taken_seated m (waits m t.count s) (passed (overfills t (Some m)) _ z).0
+  done_keeps (Lose p) e = put_place_lem p None w refl
 
 pub step_keeps : (t : Table) (step : Step) → table_sound t ≡ true → table_sound (step_of t step).table ≡ true
 unfolding step_of
@@ -127,6 +124,6 @@ step_keeps t step e = by (answer_of (step_refusals t step)) refl
     by zero z = table_whole _ (done_keeps (table_parts t e) step z)
     by (suc n) z = e
 
-pub asked_keeps : (t : Table) (asked : Asked) → table_sound t ≡ true → table_sound (asked_step t asked).table ≡ true
-asked_keeps t NoStep e = e
-asked_keeps t (OneStep step) e = step_keeps t step e
+pub asked_keeps : (t : Table) (asked : Option Step) → table_sound t ≡ true → table_sound (asked_step t asked).table ≡ true
+asked_keeps t None e = e
+asked_keeps t (Some step) e = step_keeps t step e

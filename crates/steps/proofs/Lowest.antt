@@ -1,5 +1,6 @@
 -- The place that a send takes: it was empty, every place before it holds a message, and a place
 -- freed by a loss is used again. Assumes nothing.
+use Rattle.std.proofs.Common.{Option, Some, None}
 use Prim.Native.Nat.{ℕ, zero, suc, ◌<◌, ◌≤◌}
 use mathlib.Core.Path.{◌≡◌, refl, sym, ◌∙◌, ap}
 use mathlib.Core.Bool.{Bool, true, false}
@@ -12,8 +13,6 @@ use borrow.Author.Tests.{ltb-true, ltb-false}
 use Rattle.rules.specs.declared.message.Message.{Message}
 use Rattle.ground.specs.Refusals.{answer_of}
 use Rattle.ground.proofs.First.{first_holds, first_after, first_least}
-use Rattle.pool.specs.declared.places.Waiting.{Waiting}
-use Rattle.pool.specs.declared.places.Waiting.TheVariants.{Empty, One}
 use Rattle.pool.specs.declared.places.Place.{Place}
 use Rattle.steps.specs.declared.asked.Step.TheVariants.{Send, Lose}
 use Rattle.table.specs.declared.stepped.Stepped.{Stepped}
@@ -26,15 +25,14 @@ use Rattle.steps.proofs.Ran.{step_answers}
 
 -- a place holds a message
 abbrev pub Taken : Table → ℕ → Type 0
-Taken t p = (m : Message) × (waiting_at t p ≡ One m)
+Taken t p = (m : Message) × (waiting_at t p ≡ Some m)
 
-empty : (w : Waiting) → is_empty w ≡ true → w ≡ Empty
-empty Empty e = refl
-empty (One m) e = let z : ◌≡◌ {A = ℕ} 0 1 = cc in absurd (omega arith)
+empty : (w : Option Message) → is_empty w ≡ true → w ≡ None
+empty w e = grind arith
 
-holds : (w : Waiting) → is_empty w ≡ false → (m : Message) × (w ≡ One m)
-holds Empty e = let z : ◌≡◌ {A = ℕ} 0 1 = cc in absurd (omega arith)
-holds (One m) e = (m, refl)
+holds : (w : Option Message) → is_empty w ≡ false → (m : Message) × (w ≡ Some m)
+holds None e = let z : ◌≡◌ {A = ℕ} 0 1 = cc in absurd (omega arith)
+holds (Some m) e = (m, refl)
 
 -- a send that is done, and a loss that is done
 send_by : (t : Table) (from to : ℕ) → (step_of t (Send from to)).answer ≡ 0
@@ -44,7 +42,7 @@ send_by t from to z =
     let e : answer_of (step_refusals t (Send from to)) ≡ 0 = sym (step_answers t (Send from to)) ∙ z in
     (rw e, (sends t from to e).free)
 
-lose_by_lem : (t : Table) (p : ℕ) → (step_of t (Lose p)).answer ≡ 0 → (step_of t (Lose p)).table.pool ≡ set t.pool p (record { waiting = Empty })
+lose_by_lem : (t : Table) (p : ℕ) → (step_of t (Lose p)).answer ≡ 0 → (step_of t (Lose p)).table.pool ≡ set t.pool p (record { waiting = None })
 unfolding step_of
 lose_by_lem t p z = let e : answer_of (step_refusals t (Lose p)) ≡ 0 = sym (step_answers t (Lose p)) ∙ z in rw e
 
@@ -52,7 +50,7 @@ lose_by_lem t p z = let e : answer_of (step_refusals t (Lose p)) ≡ 0 = sym (st
 pub record TakesLowest (t : Table) (x : Stepped) : Type 0 where
   pub lowest : x.result ≡ lowest_empty t.pool
   pub there : x.result < most_places
-  pub was_empty : waiting_at t x.result ≡ Empty
+  pub was_empty : waiting_at t x.result ≡ None
   pub before : (q : ℕ) → q < x.result → Taken t q
 
 pub send_takes_lowest : (t : Table) (from to : ℕ) → (step_of t (Send from to)).answer ≡ 0 → TakesLowest t (step_of t (Send from to))
@@ -68,7 +66,7 @@ send_takes_lowest t from to z =
     })
 
 -- a place freed by a loss is empty
-freed : (pool : List Place) (p : ℕ) → place_in (set pool p (record { waiting = Empty })) p ≡ Empty
+freed : (pool : List Place) (p : ℕ) → place_in (set pool p (record { waiting = None })) p ≡ None
 freed [] p = refl
 freed (x ∷ pool) zero = refl
 freed (x ∷ pool) (suc p) = freed pool p
@@ -77,7 +75,7 @@ module _ (t : Table) (p from to : ℕ) (lost : (step_of t (Lose p)).answer ≡ 0
   abbrev later : Table
   later = (step_of t (Lose p)).table
 
-  pool_later : later.pool ≡ set t.pool p (record { waiting = Empty })
+  pool_later : later.pool ≡ set t.pool p (record { waiting = None })
   pool_later = lose_by_lem t p lost
 
   -- the next send takes it or an earlier place
@@ -99,6 +97,6 @@ module _ (t : Table) (p from to : ℕ) (lost : (step_of t (Lose p)).answer ≡ 0
           let l = ltb-true r p e in
           let one = (full r l).1 in
           let none = (send_takes_lowest later from to z).was_empty in
-          let same : waiting_at later r ≡ waiting_at t r = rw pool_later (ap (λ (x : Place). x.waiting) (get_or-set_other t.pool p r (record { waiting = Empty }) _ (λ s. omega arith))) in
+          let same : waiting_at later r ≡ waiting_at t r = rw pool_later (ap (λ (x : Place). x.waiting) (get_or-set_other t.pool p r (record { waiting = None }) _ (λ s. omega arith))) in
           let z : ◌≡◌ {A = ℕ} 0 1 = cc in
           absurd (omega arith)

@@ -1,29 +1,22 @@
 -- What a run promises, and that a run of one step is that step. Assumes nothing.
 use Prim.Native.Nat.{ℕ, ◌<◌, ◌%◌}
 use mathlib.Core.Path.{◌≡◌, refl, ◌∙◌}
-use mathlib.Core.Bool.{Bool, true, false, cond, ◌&&◌}
-use mathlib.Core.List.{List, [], ◌∷◌}
+use mathlib.Core.Bool.{Bool, true, false}
+use mathlib.Core.List.{List}
 use native.Mathlib.Nat.{mod-eq_of_lt}
 use native.Mathlib.Omega.{arith}
-use borrow.Author.Tests.{ltb-true}
-use lib.Dec.{ltb}
 use lib.ListN.{get_or, replicate}
 use lib.Seq.{sets}
 use Rattle.rules.specs.declared.report.Report.{Report}
-use Rattle.ground.specs.Refusals.{Refusal, answer_of}
+use Rattle.ground.specs.Refusals.{answer_of}
 use Rattle.rules.specs.Report.{no_report, rules_of}
-use Rattle.ground.proofs.Tests.{both_hold}
 use Rattle.ground.proofs.Choices.{answer_told}
-use Rattle.pool.specs.declared.places.Waiting.{Waiting}
-use Rattle.pool.specs.declared.places.Waiting.TheVariants.{Empty, One}
 use Rattle.steps.specs.declared.running.Ran.{Ran}
 use Rattle.steps.specs.declared.asked.Step.{Step}
-use Rattle.steps.specs.declared.asked.Step.TheVariants.{Add, Draw, Send, Deliver, Lose}
 use Rattle.table.specs.declared.stepped.Stepped.{Stepped}
 use Rattle.table.specs.declared.table.Table.{Table}
-use Rattle.table.specs.Table.{waiting_at}
 use Rattle.table.specs.Sound.{table_sound}
-use Rattle.steps.specs.Steps.{deliver_step, step_refusals, step_done, step_of}
+use Rattle.steps.specs.Steps.{step_refusals, step_done, step_of}
 use Rattle.steps.specs.Running.{step_numbers, tells, asked_in, all_told, left_by, steps_in, ran_of, told_in_run, Runs, report_of, ran_by}
 
 pub ran_refused : (t : Table) (codes told : List ℕ) → table_sound t ≡ false → Runs t codes told (record { answer = 1; result = 0; table = t }) told
@@ -41,106 +34,31 @@ zeros = replicate 5 0
 
 one_ran : (t : Table) (step : Step) → table_sound t ≡ true → ran_of t (step_numbers step) zeros ≡ record { answer = 0; result = 1; table = (step_of t step).table }
 unfolding ran_of asked_in left_by
-one_ran t (Add k amount) e = rw e
-one_ran t (Draw k amount) e = rw e
-one_ran t (Send from to) e = rw e
-one_ran t (Deliver p) e = rw e
-one_ran t (Lose p) e = rw e
+one_ran t step e = grind arith
 
 one_told : (t : Table) (step : Step) → table_sound t ≡ true → told_in_run t (step_numbers step) zeros ≡ tells (step_of t step)
 unfolding told_in_run asked_in all_told
-one_told t (Add k amount) e = rw e
-one_told t (Draw k amount) e = rw e
-one_told t (Send from to) e = rw e
-one_told t (Deliver p) e = rw e
-one_told t (Lose p) e = rw e
+one_told t step e = grind arith
 
 step_unsound : (t : Table) (step : Step) → table_sound t ≡ false → record { answer = 1; result = 0; report = no_report; table = t } ≡ step_of t step
 unfolding step_of
-step_unsound t (Add k amount) e = rw e
-step_unsound t (Draw k amount) e = rw e
-step_unsound t (Send from to) e = rw e
-step_unsound t (Deliver p) e = rw e
-step_unsound t (Lose p) e = rw e
+step_unsound t step e = grind arith
 
 -- an answer is one byte
-chosen_small : (b : Bool) (n later : ℕ) → n < 256 → later < 256 → cond b n later < 256
-chosen_small true n later h g = h
-chosen_small false n later h g = g
-
-abbrev small : List Refusal → Bool
-small [] = true
-small (r ∷ rs) = ltb r.number 256 && small rs
-
-answer_small : (rs : List Refusal) → small rs ≡ true → answer_of rs < 256
-answer_small [] e = omega arith
-answer_small (r ∷ rs) e =
-    let two = both_hold (ltb r.number 256) (small rs) e in
-    chosen_small r.condition r.number (answer_of rs) (ltb-true _ _ two.0) (answer_small rs two.1)
-
 list_small : (t : Table) (step : Step) → answer_of (step_refusals t step) < 256
-list_small t (Add k amount) = answer_small (step_refusals t (Add k amount)) refl
-list_small t (Draw k amount) = answer_small (step_refusals t (Draw k amount)) refl
-list_small t (Send from to) = answer_small (step_refusals t (Send from to)) refl
-list_small t (Deliver p) = answer_small (step_refusals t (Deliver p)) refl
-list_small t (Lose p) = answer_small (step_refusals t (Lose p)) refl
+list_small t step = grind arith
 
 -- a step that is done answers 0, so that every step answers what its list gives
 done_answers_lem : (t : Table) (step : Step) → (step_done t step).answer ≡ 0
-done_answers_lem t (Add k amount) = refl
-done_answers_lem t (Draw k amount) = refl
-done_answers_lem t (Send from to) = refl
-done_answers_lem t (Deliver p) = by (waiting_at t p)
-  where
-    by : (v : Waiting) → (deliver_step t v).answer ≡ 0
-    by Empty = refl
-    by (One m) = refl
-done_answers_lem t (Lose p) = refl
+done_answers_lem t step = grind arith
 
 pub step_answers : (t : Table) (step : Step) → (step_of t step).answer ≡ answer_of (step_refusals t step)
 unfolding step_of
 step_answers t step = answer_told (λ (x : Stepped). x.answer) (answer_of (step_refusals t step)) (step_done t step) _ (done_answers_lem t step) refl
 
 -- three numbers tell the report
-abbrev told : ℕ → ℕ → Bool → Bool → Bool → Bool → Bool → Report
-told opened made a b c d e = record { rule1 = a; rule2 = b; rule3 = c; rule4 = d; rule5 = e; opened = opened; made = made }
-
-back_by : (o m : ℕ) (a b c d e : Bool) → report_of (rules_of (told o m a b c d e)) o m ≡ told o m a b c d e
-back_by o m false false false false false = refl
-back_by o m false false false false true = refl
-back_by o m false false false true false = refl
-back_by o m false false false true true = refl
-back_by o m false false true false false = refl
-back_by o m false false true false true = refl
-back_by o m false false true true false = refl
-back_by o m false false true true true = refl
-back_by o m false true false false false = refl
-back_by o m false true false false true = refl
-back_by o m false true false true false = refl
-back_by o m false true false true true = refl
-back_by o m false true true false false = refl
-back_by o m false true true false true = refl
-back_by o m false true true true false = refl
-back_by o m false true true true true = refl
-back_by o m true false false false false = refl
-back_by o m true false false false true = refl
-back_by o m true false false true false = refl
-back_by o m true false false true true = refl
-back_by o m true false true false false = refl
-back_by o m true false true false true = refl
-back_by o m true false true true false = refl
-back_by o m true false true true true = refl
-back_by o m true true false false false = refl
-back_by o m true true false false true = refl
-back_by o m true true false true false = refl
-back_by o m true true false true true = refl
-back_by o m true true true false false = refl
-back_by o m true true true false true = refl
-back_by o m true true true true false = refl
-back_by o m true true true true true = refl
-
 report_back : (r : Report) → report_of (rules_of r) r.opened r.made ≡ r
-report_back r = back_by r.opened r.made r.rule1 r.rule2 r.rule3 r.rule4 r.rule5
+report_back r = grind arith
 
 -- the numbers that were lent name the step
 pub numbered : {t : Table} (step : Step) {codes told : List ℕ} {r : Ran} {later : List ℕ} → codes ≡ step_numbers step → Runs t codes told r later → Runs t (step_numbers step) told r later

@@ -1,5 +1,6 @@
 -- A step of a sound table tells and does what the step of its one station does, and a message sent
 -- is the one that its sender shows. Assumes nothing.
+use Rattle.std.proofs.Common.{Some}
 use Prim.Native.Nat.{ℕ, zero, suc, ◌<◌, ◌+◌, ◌-◌}
 use mathlib.Core.Path.{◌≡◌, refl, sym, ◌∙◌, ap}
 use mathlib.Core.Bool.{true, not}
@@ -23,7 +24,6 @@ use Rattle.station.specs.Outcome.{answered}
 use Rattle.station.specs.Side.{side_for, put_side}
 use Rattle.station.specs.Steps.{told, put_stock, message_for, show_answer, add_of, draw_of, receive_of}
 use Rattle.station.proofs.Answering.{shown}
-use Rattle.pool.specs.declared.places.Waiting.TheVariants.{One}
 use Rattle.pool.specs.declared.places.Place.{Place}
 use Rattle.steps.specs.declared.asked.Step.TheVariants.{Add, Draw, Send, Deliver}
 use Rattle.table.specs.declared.stepped.Stepped.{Stepped}
@@ -89,7 +89,7 @@ module _ (t : Table) (sound : table_sound t ≡ true) (full : length t.stations 
       amount no_report (put_stock s (s.value - amount) s.intake) (there k h))
 
   -- delivering the message of a place is receiving it at the station that it is for
-  pub deliver_same : (p : ℕ) (m : Message) → p < most_places → waiting_at t p ≡ One m
+  pub deliver_same : (p : ℕ) (m : Message) → p < most_places → waiting_at t p ≡ Some m
       → SameAt t m.to (receive_of (station_at t m.to) m) (step_of t (Deliver p))
   unfolding step_of receive_of
   deliver_same p m h e =
@@ -108,7 +108,7 @@ module _ (t : Table) (sound : table_sound t ≡ true) (full : length t.stations 
         lt-ltb m.to s.count (omega (arith, at.to, seat.count)),
         eq-eqb m.to s.number (sym seat.number),
       )
-      (same_by t m.to (answer_of (when (overfills t (One m)) value_limit ∷ [])) r.result r.report (put_side s m.from r.side) (there m.to at.to))
+      (same_by t m.to (answer_of (when (overfills t (Some m)) value_limit ∷ [])) r.result r.report (put_side s m.from r.side) (there m.to at.to))
 
 -- a send that is not refused puts the sender's message into the lowest empty place, and changes
 -- nothing else
@@ -116,7 +116,7 @@ pub record SentAt (t : Table) (p : ℕ) (m : Message) (x : Stepped) : Type 0 whe
   pub answer : x.answer ≡ 0
   pub result : x.result ≡ p
   pub report : x.report ≡ no_report
-  pub waiting : waiting_at x.table p ≡ One m
+  pub waiting : waiting_at x.table p ≡ Some m
   pub others : (q : ℕ) → (q ≡ p → ⊥) → waiting_at x.table q ≡ waiting_at t q
   pub stations : x.table.stations ≡ t.stations
   pub count : x.table.count ≡ t.count
@@ -141,8 +141,8 @@ send_same t from to sound full h e free =
       answer = refl;
       result = refl;
       report = refl;
-      waiting = ap (λ (x : Place). x.waiting) (get_or-set_same t.pool p (record { waiting = One m }) _ (omega arith));
-      others = λ q n. ap (λ (x : Place). x.waiting) (get_or-set_other t.pool p q (record { waiting = One m }) _ n);
+      waiting = ap (λ (x : Place). x.waiting) (get_or-set_same t.pool p (record { waiting = Some m }) _ (omega arith));
+      others = λ q n. ap (λ (x : Place). x.waiting) (get_or-set_other t.pool p q (record { waiting = Some m }) _ n);
       stations = refl;
       count = refl;
     })

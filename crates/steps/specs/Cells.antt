@@ -1,11 +1,16 @@
 -- What the stations of a table hold for each other, in one row.
-use Rattle.std.specs.Prelude.{ℕ, zero, suc, ◌+◌, ◌*◌, ◌/◌, ◌%◌, List, [], ◌∷◌}
-use Rattle.rules.specs.declared.side.Side.{Side}
+use Rattle.std.specs.Prelude.{ℕ, zero, suc, ◌+◌, ◌*◌, ◌/◌, ◌%◌, List, [], ◌∷◌, Option}
+use Rattle.rules.specs.declared.held.Slot.{Slot}
+use Rattle.rules.specs.declared.held.Token.{Token}
 use Rattle.ground.specs.Limits.{most_stations}
 use Rattle.station.specs.declared.station.Station.{Station}
 use Rattle.station.specs.Held.{slot_for, token_for}
-use Rattle.steps.specs.declared.cells.Cells.{Cells}
 use Rattle.table.specs.Table.{station_in}
+
+-- what one station holds for one peer
+pub record Cells : Type 0 where
+  pub slot : Option Slot
+  pub token : Option Token
 
 -- what station s holds for station j
 abbrev pub cells_for : Station → ℕ → Cells
@@ -22,8 +27,3 @@ cell_at stations n = cells_for (station_in stations (n / most_stations)) (n % mo
 
 abbrev pub cells_of : List Station → List Cells
 cells_of stations = each_from (cell_at stations) (most_stations * most_stations) 0
-
--- a side by its numbers and its cells
-abbrev pub side_by : ℕ → ℕ → ℕ → Cells → Side
-side_by value source destination c =
-    record { value = value; source = record { 0 = source }; destination = record { 0 = destination }; slot = c.slot; token = c.token }

@@ -1,6 +1,7 @@
 -- What a step will do, by no more of a table than it looks at: the count, one station's stock and
 -- its side to one peer, what waits at one place, and the lowest-numbered empty place.
-use Rattle.std.specs.Prelude.{ℕ, ◌<◌, Bool, cond, not, ◌&&◌, ◌||◌, [], ◌∷◌, ltb, eqb}
+use Rattle.std.specs.Prelude.{ℕ, ◌<◌, Bool, cond, not, ◌&&◌, ◌||◌, [], ◌∷◌, ltb, eqb, Option, Some, None}
+use Rattle.steps.specs.declared.asked.Step.{Step}
 use Rattle.rules.specs.declared.message.Message.{Message}
 use Rattle.rules.specs.declared.report.Report.{Report}
 use Rattle.rules.specs.declared.side.Side.{Side}
@@ -17,10 +18,6 @@ use Rattle.station.specs.Steps.{put_stock}
 use Rattle.steps.specs.declared.planning.Change.{Change}
 use Rattle.steps.specs.declared.planning.Change.TheVariants.{Nothing, AtStock, AtSide, AtPlace}
 use Rattle.steps.specs.declared.planning.Plan.{Plan}
-use Rattle.pool.specs.declared.places.Waiting.{Waiting}
-use Rattle.pool.specs.declared.places.Waiting.TheVariants.{Empty, One}
-use Rattle.steps.specs.declared.asked.Asked.{Asked}
-use Rattle.steps.specs.declared.asked.Asked.TheVariants.{NoStep, OneStep}
 use Rattle.steps.specs.declared.asked.Step.TheVariants.{Add, Draw, Send, Deliver, Lose}
 use Rattle.table.specs.declared.table.Table.{Table}
 use Rattle.pool.specs.Pool.{most_places}
@@ -41,7 +38,7 @@ stock_done r = record { answer = done; result = r.result; report = no_report; ch
 abbrev pub stock_plan : ℕ → ℕ → Stock → Plan
 stock_plan k count r = planned (cond (not (ltb k count)) not_below_count r.answer) (stock_done r)
 
-abbrev pub place_plan : ℕ → ℕ → Waiting → Plan
+abbrev pub place_plan : ℕ → ℕ → Option Message → Plan
 place_plan p result w = record { answer = done; result = result; report = no_report; change = AtPlace p w }
 
 -- send: 2, 3, 6
@@ -55,7 +52,7 @@ send_answer from to count free =
     (when (not (ltb from count && ltb to count)) not_below_count ∷ when (eqb from to) same_station ∷ when (not (ltb free most_places)) pool_full ∷ [])
 
 abbrev pub send_plan : ℕ → ℕ → ℕ → Side → ℕ → Plan
-send_plan from to count x free = planned (send_answer from to count free) (place_plan free free (One (message_by from to x)))
+send_plan from to count x free = planned (send_answer from to count free) (place_plan free free (Some (message_by from to x)))
 
 -- deliver: 7, 8, then as the rules tell; where none acted, nothing changes
 abbrev pub acted_in : Report → Bool
@@ -70,29 +67,29 @@ side_plan r = planned r.answer (side_done r)
 abbrev pub place_answer : ℕ → ℕ
 place_answer p = cond (not (ltb p most_places)) no_such_place done
 
-abbrev pub deliver_by : Waiting → Side → Plan
-deliver_by Empty x = refused_plan empty_place
-deliver_by (One m) x = side_plan (taken_of x m)
+abbrev pub deliver_by : Option Message → Side → Plan
+deliver_by None x = refused_plan empty_place
+deliver_by (Some m) x = side_plan (taken_of x m)
 
-abbrev pub deliver_plan : ℕ → Waiting → Side → Plan
+abbrev pub deliver_plan : ℕ → Option Message → Side → Plan
 deliver_plan p w x = planned (place_answer p) (deliver_by w x)
 
 -- lose: 7, 8
-abbrev pub lose_by : ℕ → Waiting → Plan
-lose_by p Empty = refused_plan empty_place
-lose_by p (One m) = place_plan p 0 Empty
+abbrev pub lose_by : ℕ → Option Message → Plan
+lose_by p None = refused_plan empty_place
+lose_by p (Some m) = place_plan p 0 None
 
-abbrev pub lose_plan : ℕ → Waiting → Plan
+abbrev pub lose_plan : ℕ → Option Message → Plan
 lose_plan p w = planned (place_answer p) (lose_by p w)
 
 -- what names no step is refused by 12
-abbrev pub plan_at : ℕ → Asked → ℕ → Side → Waiting → ℕ → Plan
-plan_at count NoStep intake x w free = refused_plan bad_line
-plan_at count (OneStep (Add k amount)) intake x w free = stock_plan k count (added_to x.value intake amount)
-plan_at count (OneStep (Draw k amount)) intake x w free = stock_plan k count (drawn_from x.value intake amount)
-plan_at count (OneStep (Send from to)) intake x w free = send_plan from to count x free
-plan_at count (OneStep (Deliver p)) intake x w free = deliver_plan p w x
-plan_at count (OneStep (Lose p)) intake x w free = lose_plan p w
+abbrev pub plan_at : ℕ → Option Step → ℕ → Side → Option Message → ℕ → Plan
+plan_at count None intake x w free = refused_plan bad_line
+plan_at count (Some (Add k amount)) intake x w free = stock_plan k count (added_to x.value intake amount)
+plan_at count (Some (Draw k amount)) intake x w free = stock_plan k count (drawn_from x.value intake amount)
+plan_at count (Some (Send from to)) intake x w free = send_plan from to count x free
+plan_at count (Some (Deliver p)) intake x w free = deliver_plan p w x
+plan_at count (Some (Lose p)) intake x w free = lose_plan p w
 
 -- the table with what a plan changes: at station k, or its side to station j, or a place
 abbrev pub changed : Table → ℕ → ℕ → Change → Table

@@ -1,13 +1,11 @@
 -- A run of steps in one call: steps as numbers, three for each, and what each tells as numbers,
 -- five for each.
-use Rattle.std.specs.Prelude.{ℕ, zero, suc, min, ◌/◌, ◌%◌, ◌≡◌, cond, List, [], ◌∷◌, ◌++◌, eqb, length, get_or, drop}
+use Rattle.std.specs.Prelude.{ℕ, zero, suc, min, ◌/◌, ◌%◌, ◌≡◌, cond, List, [], ◌∷◌, ◌++◌, eqb, length, get_or, drop, Option, Some, None}
 use Rattle.std.proofs.lemmas.List.Edits.{sets}
 use Rattle.rules.specs.declared.report.Report.{Report}
 use Rattle.ground.specs.Answers.{done, not_sound, bad_line}
 use Rattle.rules.specs.Report.{no_report, rules_of}
 use Rattle.steps.specs.declared.running.Ran.{Ran}
-use Rattle.steps.specs.declared.asked.Asked.{Asked}
-use Rattle.steps.specs.declared.asked.Asked.TheVariants.{NoStep, OneStep}
 use Rattle.steps.specs.declared.asked.Step.{Step}
 use Rattle.steps.specs.declared.asked.Step.TheVariants.{Add, Draw, Send, Deliver, Lose}
 use Rattle.table.specs.declared.stepped.Stepped.{Stepped}
@@ -17,13 +15,13 @@ use Rattle.steps.specs.Steps.{step_of}
 
 -- 0 an add, 1 a draw, 2 a send, 3 a delivery, 4 a loss, with its numbers; any other names no step.
 -- Of a delivery and a loss the last number is not looked at
-abbrev pub asked_by : ℕ → ℕ → ℕ → Asked
+abbrev pub asked_by : ℕ → ℕ → ℕ → Option Step
 asked_by kind a b =
-    cond (eqb kind 0) (OneStep (Add a b))
-    (cond (eqb kind 1) (OneStep (Draw a b))
-    (cond (eqb kind 2) (OneStep (Send a b))
-    (cond (eqb kind 3) (OneStep (Deliver a))
-    (cond (eqb kind 4) (OneStep (Lose a)) NoStep))))
+    cond (eqb kind 0) (Some (Add a b))
+    (cond (eqb kind 1) (Some (Draw a b))
+    (cond (eqb kind 2) (Some (Send a b))
+    (cond (eqb kind 3) (Some (Deliver a))
+    (cond (eqb kind 4) (Some (Lose a)) None))))
 
 -- the numbers that name what is asked for
 abbrev pub step_numbers : Step → List ℕ
@@ -33,14 +31,14 @@ step_numbers (Send from to) = 2 ∷ from ∷ to ∷ []
 step_numbers (Deliver p) = 3 ∷ p ∷ 0 ∷ []
 step_numbers (Lose p) = 4 ∷ p ∷ 0 ∷ []
 
-abbrev pub numbers_for : Asked → List ℕ
-numbers_for NoStep = 5 ∷ 0 ∷ 0 ∷ []
-numbers_for (OneStep step) = step_numbers step
+abbrev pub numbers_for : Option Step → List ℕ
+numbers_for None = 5 ∷ 0 ∷ 0 ∷ []
+numbers_for (Some step) = step_numbers step
 
 -- what names no step is answered 12, and changes nothing
-abbrev pub asked_step : Table → Asked → Stepped
-asked_step t NoStep = record { answer = bad_line; result = 0; report = no_report; table = t }
-asked_step t (OneStep step) = step_of t step
+abbrev pub asked_step : Table → Option Step → Stepped
+asked_step t None = record { answer = bad_line; result = 0; report = no_report; table = t }
+asked_step t (Some step) = step_of t step
 
 -- the answer, the result, the rules that acted as a sum of 1, 2, 4, 8, 16, the quantity of a slot
 -- opened and that of a token made
@@ -48,16 +46,16 @@ abbrev pub tells : Stepped → List ℕ
 tells s = s.answer ∷ s.result ∷ rules_of s.report ∷ s.report.opened ∷ s.report.made ∷ []
 
 -- what the first n threes of numbers ask for
-unfoldable pub asked_in : ℕ → List ℕ → List Asked
+unfoldable pub asked_in : ℕ → List ℕ → List (Option Step)
 asked_in zero codes = []
 asked_in (suc n) codes = asked_by (get_or codes 0 0) (get_or codes 1 0) (get_or codes 2 0) ∷ asked_in n (drop 3 codes)
 
 -- one after the other: all that is told, and the table that is left
-unfoldable pub all_told : Table → List Asked → List ℕ
+unfoldable pub all_told : Table → List (Option Step) → List ℕ
 all_told t [] = []
 all_told t (x ∷ xs) = let s = asked_step t x in tells s ++ all_told s.table xs
 
-unfoldable pub left_by : Table → List Asked → Table
+unfoldable pub left_by : Table → List (Option Step) → Table
 left_by t [] = t
 left_by t (x ∷ xs) = left_by (asked_step t x).table xs
 
@@ -65,7 +63,7 @@ left_by t (x ∷ xs) = left_by (asked_step t x).table xs
 abbrev pub steps_in : List ℕ → List ℕ → ℕ
 steps_in codes told = min (length codes / 3) (length told / 5)
 
-abbrev pub asked_of : List ℕ → List ℕ → List Asked
+abbrev pub asked_of : List ℕ → List ℕ → List (Option Step)
 asked_of codes told = asked_in (steps_in codes told) codes
 
 abbrev pub ran_by : Table → ℕ → List ℕ → Ran

@@ -1,6 +1,6 @@
 -- The steps of a table: the refusals of each in their order, and what it does where none of them
 -- holds.
-use Rattle.std.specs.Prelude.{ℕ, ◌+◌, ◌-◌, Bool, false, not, ◌&&◌, List, [], ◌∷◌, ltb, eqb}
+use Rattle.std.specs.Prelude.{ℕ, ◌+◌, ◌-◌, Bool, false, not, ◌&&◌, List, [], ◌∷◌, ltb, eqb, Option, Some, None}
 use Rattle.rules.specs.declared.message.Message.{Message}
 use Rattle.ground.specs.Answers.{not_below_count, same_station, bad_amount, intake_limit, pool_full, no_such_place, empty_place, value_limit, too_few}
 use Rattle.ground.specs.Limits.{most_intake, most_value}
@@ -12,8 +12,6 @@ use Rattle.rules.specs.Taking.{five_rules}
 use Rattle.station.specs.declared.station.Station.{Station}
 use Rattle.station.specs.Side.{side_for, put_side}
 use Rattle.station.specs.Steps.{put_stock, message_for}
-use Rattle.pool.specs.declared.places.Waiting.{Waiting}
-use Rattle.pool.specs.declared.places.Waiting.TheVariants.{Empty, One}
 use Rattle.table.specs.declared.table.Table.{Table}
 use Rattle.steps.specs.declared.asked.Step.{Step}
 use Rattle.steps.specs.declared.asked.Step.TheVariants.{Add, Draw, Send, Deliver, Lose}
@@ -34,7 +32,7 @@ draw_step t k amount s = did amount no_report (put_station t k (put_stock s (s.v
 -- Send writes the sender's message into the lowest-numbered empty place. The sender does not
 -- change. Result: the place.
 abbrev pub send_step : Table → ℕ → Message → Stepped
-send_step t p m = did p no_report (put_place t p (One m))
+send_step t p m = did p no_report (put_place t p (Some m))
 
 -- Deliver lets the receiver take the message at a place by the five rules. The message stays.
 -- Result: the amount filled, or 0.
@@ -42,18 +40,18 @@ abbrev pub take_step : Table → Message → Station → Stepped
 take_step t m s = let r = five_rules (side_for s m.from) m in did r.result r.report (put_station t m.to (put_side s m.from r.side))
 
 -- an empty place is refused, so the first line is not met with
-abbrev pub deliver_step : Table → Waiting → Stepped
-deliver_step t Empty = did 0 no_report t
-deliver_step t (One m) = take_step t m (station_at t m.to)
+abbrev pub deliver_step : Table → Option Message → Stepped
+deliver_step t None = did 0 no_report t
+deliver_step t (Some m) = take_step t m (station_at t m.to)
 
 -- Lose empties a place. Result 0.
 abbrev pub lose_step : Table → ℕ → Stepped
-lose_step t p = did 0 no_report (put_place t p Empty)
+lose_step t p = did 0 no_report (put_place t p None)
 
 -- a fill by rule 1 would bring the receiver's value above its limit
-abbrev pub overfills : Table → Waiting → Bool
-overfills t Empty = false
-overfills t (One m) = ltb most_value (fill (side_for (station_at t m.to) m.from) m).side.value
+abbrev pub overfills : Table → Option Message → Bool
+overfills t None = false
+overfills t (Some m) = ltb most_value (fill (side_for (station_at t m.to) m.from) m).side.value
 
 abbrev pub step_refusals : Table → Step → List Refusal
 step_refusals t (Add k amount) =

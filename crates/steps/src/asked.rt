@@ -12,47 +12,30 @@ pub enum Step {
     Lose(u64),
 }
 
-// What was asked for names a step, or none.
-#[derive(Clone, Copy)]
-pub enum Asked {
-    NoStep,
-    OneStep(Step),
-}
-
 // Three numbers, as a run of steps is lent them.
-pub fn numbers_for(asked: Asked) -> [u64; 3]
+pub fn numbers_for(asked: Option<Step>) -> [u64; 3]
     ensures { result ≡ numbers_for asked }
 {
-    let Asked::OneStep(step) = asked else {
-        return [5, 0, 0];
-    };
-    match step {
-        Step::Add(k, amount) => [0, k, amount],
-        Step::Draw(k, amount) => [1, k, amount],
-        Step::Send(from, to) => [2, from, to],
-        Step::Deliver(p) => [3, p, 0],
-        Step::Lose(p) => [4, p, 0],
+    match asked {
+        Some(Step::Add(k, amount)) => [0, k, amount],
+        Some(Step::Draw(k, amount)) => [1, k, amount],
+        Some(Step::Send(from, to)) => [2, from, to],
+        Some(Step::Deliver(p)) => [3, p, 0],
+        Some(Step::Lose(p)) => [4, p, 0],
+        None => [5, 0, 0],
     }
 }
 
 // And back: 0 an add, 1 a draw, 2 a send, 3 a delivery, 4 a loss; any other names no step.
-pub fn asked_by(kind: u64, a: u64, b: u64) -> Asked
+pub fn asked_by(kind: u64, a: u64, b: u64) -> Option<Step>
     ensures { result ≡ asked_by kind a b }
 {
-    if kind == 0 {
-        return Asked::OneStep(Step::Add(a, b));
+    match kind {
+        0 => Some(Step::Add(a, b)),
+        1 => Some(Step::Draw(a, b)),
+        2 => Some(Step::Send(a, b)),
+        3 => Some(Step::Deliver(a)),
+        4 => Some(Step::Lose(a)),
+        _ => None,
     }
-    if kind == 1 {
-        return Asked::OneStep(Step::Draw(a, b));
-    }
-    if kind == 2 {
-        return Asked::OneStep(Step::Send(a, b));
-    }
-    if kind == 3 {
-        return Asked::OneStep(Step::Deliver(a));
-    }
-    if kind == 4 {
-        return Asked::OneStep(Step::Lose(a));
-    }
-    Asked::NoStep
 }

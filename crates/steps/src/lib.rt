@@ -2,9 +2,8 @@
 #![tactic(auto)]
 
 pub mod asked;
-mod cells;
 mod looking;
-pub mod planning;
+mod planning;
 pub mod running;
 pub mod stepping;
 mod taken;

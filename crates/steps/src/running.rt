@@ -4,20 +4,20 @@ ghost use Rattle.std.proofs.lemmas.List.Edits.{sets};
 ghost use Rattle.ground.specs.Limits.{most_stations};
 ghost use Rattle.rules.specs.Report.{rules_of};
 ghost use Rattle.station.specs.Side.{put_side};
+ghost use Rattle.station.specs.Steps.{put_stock};
 ghost use Rattle.steps.specs.Running.{asked_in, ran_by, all_told, Runs};
 ghost use Rattle.table.specs.Sound.{table_sound};
 
 use crate::asked::asked_by;
-use crate::cells::{cells_for, cells_of, side_by};
-use crate::looking::{free_for, place_looked_at, seat_looked_at};
-use crate::planning::{Change, plan_at};
-use crate::taken::{flag_of, flags_of};
-use ground::answers;
-use ground::limits::MOST_STATIONS;
+use crate::looking::{free_for, place_looked_at, seat_looked_at, side_looked_at};
+use crate::planning::{Change, Plan, plan_at};
+use crate::taken::flags_of;
+use ground::answers::DONE;
+use ground::refusal::Refusal;
 use pool::places::Place;
-use rules::report::{Report, rules_of};
+use rules::report::rules_of;
 use rules::side::Side;
-use station::held::{SlotCell, TokenCell};
+use station::held::PeerCell;
 use station::station::Station;
 use table::sound::table_is_sound;
 use table::table::Table;
@@ -30,96 +30,72 @@ pub struct Ran {
     pub table: Table,
 }
 
-// A station with another side to station j.
-fn with_side(s: Station, j: usize, x: Side) -> Station
-    requires { j < most_stations }
-    ensures { result ≡ put_side s j x }
+// Another value and another intake.
+fn put_stock(s: &mut Station, value: u64, intake: u64)
+    ensures { s.new ≡ put_stock s.old value intake }
 {
-    let slot = x.slot;
-    let token = x.token;
-    let source = x.source;
-    let destination = x.destination;
-    let mut next = s;
-    next.value = x.value;
-    next.source = source;
-    next.destination = destination;
-    next.slots[j] = SlotCell { held: slot };
-    next.tokens[j] = TokenCell { held: token };
-    next
+    s.value = value;
+    s.intake = intake;
+}
+
+// Another side to station j.
+fn put_side(s: &mut Station, j: usize, x: Side)
+    requires { j < most_stations }
+    ensures { s.new ≡ put_side s.old j x }
+{
+    s.value = x.value;
+    s.source = x.source;
+    s.destination = x.destination;
+    s.slots[j] = PeerCell { held: x.slot };
+    s.tokens[j] = PeerCell { held: x.token };
 }
 
 // Five numbers.
-fn put_told(told: &mut [u64], at: usize, answer: u8, res: u64, report: Report)
+fn put_told(told: &mut [u64], at: usize, plan: &Plan)
     requires { at + 5 ≤ length told.old }
-    ensures { told.new ≡ sets told.old at (answer ∷ res ∷ rules_of report ∷ report.opened ∷ report.made ∷ []) }
+    ensures { told.new ≡ sets told.old at (plan.now.answer ∷ plan.now.result ∷ rules_of plan.now.report ∷ plan.now.report.opened ∷ plan.now.report.made ∷ []) }
 {
-    told[at] = answer as u64;
-    told[at + 1] = res;
-    told[at + 2] = rules_of(report);
-    told[at + 3] = report.opened;
-    told[at + 4] = report.made;
+    told[at] = plan.answer as u64;
+    told[at + 1] = plan.result;
+    told[at + 2] = rules_of(plan.report);
+    told[at + 3] = plan.report.opened;
+    told[at + 4] = plan.report.made;
 }
 
 // The loop holds the table: a table is large, and a call copies what it is given. So no call in the
-// loop is given the table, and each step changes its one station or place right here. Which places
-// are taken and what the stations hold is kept beside it, to be looked at without a copy.
-fn run_sound(t: Table, codes: &[u64], told: &mut [u64], steps: usize) -> Ran
-    requires { (table_sound t ≡ true) × (3 * steps ≤ length codes.now) × (5 * steps ≤ length told.old) }
-    ensures { (result ≡ ran_by t steps codes.now) × (told.new ≡ sets told.old 0 (all_told t (asked_in steps codes.now))) }
+// loop is given the table: a call is lent the one station that it reads or changes, and a place is
+// put right here. Which places are taken is kept beside it, since a search of 64 flags is shorter
+// than one of 64 messages.
+fn run_sound(mut table: Table, codes: &[u64], told: &mut [u64], steps: usize) -> Ran
+    requires { (table_sound table ≡ true) × (3 * steps ≤ length codes.now) × (5 * steps ≤ length told.old) }
+    ensures { (result ≡ ran_by table steps codes.now) × (told.new ≡ sets told.old 0 (all_told table (asked_in steps codes.now))) }
 {
-    let mut table = t;
-    let stations = table.stations;
-    let all = cells_of(stations);
-    let mut cells = all.cells;
-    let pool = table.pool;
-    let flags = flags_of(pool);
-    let mut taken = flags.taken;
-    let mut n: usize = 0;
-    while n < steps {
+    let mut taken = flags_of(&table.pool);
+    for n in 0..steps {
         let asked = asked_by(codes[3 * n], codes[3 * n + 1], codes[3 * n + 2]);
-        let place = table.pool[place_looked_at(asked)];
-        let waiting = place.waiting;
+        let waiting = table.pool[place_looked_at(asked)].waiting;
         let free = free_for(asked, &taken);
         let seat = seat_looked_at(asked, waiting);
-        let k = seat.station;
-        let j = seat.peer;
-        let source = table.stations[k].source.0;
-        let destination = table.stations[k].destination.0;
-        let value = table.stations[k].value;
+        let (k, j) = (seat.station, seat.peer);
+        let x = side_looked_at(&table.stations[k], j);
         let intake = table.stations[k].intake;
-        let x = side_by(value, source, destination, cells[MOST_STATIONS * k + j]);
         let plan = plan_at(table.count, asked, intake, x, waiting, free);
-        let change = plan.change;
-        match change {
+        match plan.change {
             Change::Nothing => {}
-            Change::AtStock(value, intake) => {
-                table.stations[k].value = value;
-                table.stations[k].intake = intake;
-            }
-            Change::AtSide(side) => {
-                table.stations[k] = with_side(table.stations[k], j, side);
-                cells[MOST_STATIONS * k + j] = cells_for(table.stations[k], j);
-            }
+            Change::AtStock(value, intake) => put_stock(&mut table.stations[k], value, intake),
+            Change::AtSide(side) => put_side(&mut table.stations[k], j, side),
             Change::AtPlace(p, w) => {
                 table.pool[p] = Place { waiting: w };
-                taken[p] = flag_of(w);
+                taken[p] = w.is_some();
             }
         }
-        let report = plan.report;
-        put_told(told, 5 * n, plan.answer, plan.result, report);
-        n = n + 1;
+        put_told(told, 5 * n, &plan);
     }
     Ran {
-        answer: answers::DONE,
+        answer: DONE,
         result: steps as u64,
         table,
     }
-}
-
-fn smaller(a: usize, b: usize) -> usize
-    ensures { result ≡ min a b }
-{
-    if a < b { a } else { b }
 }
 
 // Refused by 1. Each step is refused, or done, as `step` would.
@@ -128,11 +104,11 @@ pub fn run(t: Table, codes: &[u64], told: &mut [u64]) -> Ran
 {
     if !table_is_sound(t) {
         return Ran {
-            answer: answers::NOT_SOUND,
+            answer: Refusal::NotSound.number(),
             result: 0,
             table: t,
         };
     }
-    let steps = smaller(codes.len() / 3, told.len() / 5);
+    let steps = (codes.len() / 3).min(told.len() / 5);
     run_sound(t, codes, told, steps)
 }

@@ -3,9 +3,9 @@ ghost use Rattle.std.specs.Prelude.{◌≡◌};
 ghost use Rattle.steps.specs.Running.{report_of};
 ghost use Rattle.steps.specs.Steps.{step_of};
 
-use crate::asked::{Asked, Step, numbers_for};
+use crate::asked::{Step, numbers_for};
 use crate::running::run;
-use ground::answers;
+use ground::answers::DONE;
 use rules::report::{Report, no_report};
 use table::stepped::Stepped;
 use table::table::Table;
@@ -30,22 +30,22 @@ fn report_of(rules: u64, opened: u64, made: u64) -> Report
 pub fn step(t: Table, step: Step) -> Stepped
     ensures { result ≡ step_of t step }
 {
-    let codes = numbers_for(Asked::OneStep(step));
-    let mut told: [u64; 5] = [0; 5];
+    let codes = numbers_for(Some(step));
+    let mut told = [0; 5];
     let ran = run(t, &codes, &mut told);
-    let table = ran.table;
-    if ran.answer != answers::DONE {
+    if ran.answer != DONE {
         return Stepped {
             answer: ran.answer,
             result: 0,
             report: no_report(),
-            table,
+            table: ran.table,
         };
     }
+    let [answer, result, rules, opened, made] = told;
     Stepped {
-        answer: (told[0] % 256) as u8,
-        result: told[1],
-        report: report_of(told[2], told[3], told[4]),
-        table,
+        answer: (answer % 256) as u8,
+        result,
+        report: report_of(rules, opened, made),
+        table: ran.table,
     }
 }

@@ -1,4 +1,5 @@
 -- A fresh table is sound. Assumes nothing.
+use Rattle.std.proofs.Common.{None}
 use Prim.Native.Nat.{ℕ, zero, suc, ◌<◌, ◌≤◌}
 use mathlib.Core.Path.{◌≡◌, refl, sym, ◌∙◌}
 use mathlib.Core.Logic.{⊎_elim}
@@ -16,7 +17,6 @@ use Rattle.station.specs.Steps.{blank, fresh_answer, fresh_of}
 use Rattle.ground.proofs.Tests.{both_hold, below_or_last}
 use Rattle.station.proofs.Keeps.{fresh_sound}
 use Rattle.pool.specs.declared.places.Place.{Place}
-use Rattle.pool.specs.declared.places.Waiting.TheVariants.{Empty}
 use Rattle.pool.specs.Pool.{most_places}
 use Rattle.table.specs.Table.{station_at, waiting_at}
 use Rattle.table.specs.Sound.{seat_sound, place_sound, table_sound}
@@ -59,7 +59,7 @@ module _ (count : ℕ) (e : count_sound count ≡ true) where
       rw (seat_at count count k _ h most, lt-leb count k h, blank_sound k count e h, eq-eqb k k refl, eq-eqb count count refl)
 
   places : (p : ℕ) → p < most_places → place_sound (waiting_at (blank_table count) p) count ≡ true
-  places p h = rw (get_or-replicate {A = Place} most_places p (record { waiting = Empty }) (record { waiting = Empty }) h)
+  places p h = rw (get_or-replicate {A = Place} most_places p (record { waiting = None }) (record { waiting = None }) h)
 
   pub fresh_table_sound : table_sound (fresh_table_of count).table ≡ true
   unfolding fresh_table_of

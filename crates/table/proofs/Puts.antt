@@ -1,5 +1,6 @@
 -- What is put into a sound table leaves it sound, and what a step of a seated station leaves may be
 -- put there. Assumes nothing.
+use Rattle.std.proofs.Common.{Option, Some}
 use Prim.Native.Nat.{ℕ, ◌<◌}
 use mathlib.Core.Path.{◌≡◌, ◌∙◌}
 use mathlib.Core.Bool.{true, or-true}
@@ -11,8 +12,6 @@ use Rattle.station.specs.Sound.{station_sound}
 use Rattle.station.specs.Steps.{show_of, receive_of}
 use Rattle.station.proofs.Answering.{shown}
 use Rattle.station.proofs.Keeps.{receive_keeps, receive_seat, message_sound_lem}
-use Rattle.pool.specs.declared.places.Waiting.{Waiting}
-use Rattle.pool.specs.declared.places.Waiting.TheVariants.{One}
 use Rattle.pool.specs.declared.places.Place.{Place}
 use Rattle.table.specs.declared.table.Table.{Table}
 use Rattle.table.specs.Table.{station_at, put_station, put_place}
@@ -28,7 +27,7 @@ seat_of_lem {t} w k h = seated (station_at t k) k t.count h (w.seats k (omega (a
 seat_whole : {s : Station} {k n : ℕ} → Seated s k n → seat_sound s k n ≡ true
 seat_whole w = rw (w.sound, eq-eqb _ _ w.number, eq-eqb _ _ w.count, or-true)
 
-pub place_whole : {m : Message} {n : ℕ} → Waits m n → place_sound (One m) n ≡ true
+pub place_whole : {m : Message} {n : ℕ} → Waits m n → place_sound (Some m) n ≡ true
 place_whole w = rw (w.sound, lt-ltb _ _ w.from, lt-ltb _ _ w.to)
 
 -- a step at a station leaves it at its number
@@ -56,7 +55,7 @@ put_station_lem {t} k w new =
       places = w.places;
     }
 
-pub put_place_lem : {t : Table} (p : ℕ) (v : Waiting) → SoundTable t → place_sound v t.count ≡ true → SoundTable (put_place t p v)
+pub put_place_lem : {t : Table} (p : ℕ) (v : Option Message) → SoundTable t → place_sound v t.count ≡ true → SoundTable (put_place t p v)
 put_place_lem {t} p v w new =
     record {
       least = w.least;

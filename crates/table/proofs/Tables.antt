@@ -1,4 +1,5 @@
 -- Soundness of a table, part by part. Assumes nothing.
+use Rattle.std.proofs.Common.{Some}
 use Prim.Native.Nat.{ℕ, ◌<◌, ◌≤◌}
 use mathlib.Core.Path.{◌≡◌}
 use mathlib.Core.Bool.{true, ◌&&◌, and-false}
@@ -11,7 +12,6 @@ use Rattle.ground.specs.Below.{all_below}
 use Rattle.station.specs.Sound.{station_sound, message_sound}
 use Rattle.ground.proofs.Tests.{needed}
 use Rattle.ground.proofs.Below.{all_at, all_from}
-use Rattle.pool.specs.declared.places.Waiting.TheVariants.{One}
 use Rattle.table.specs.declared.table.Table.{Table}
 use Rattle.pool.specs.Pool.{most_places}
 use Rattle.table.specs.Table.{station_at, waiting_at}
@@ -69,7 +69,7 @@ seated s k count h e =
       count = eqb-true _ _ (needed (eqb s.count count) (λ g. simp (g, and-false) at f));
     }
 
-pub waits : (m : Message) (count : ℕ) → place_sound (One m) count ≡ true → Waits m count
+pub waits : (m : Message) (count : ℕ) → place_sound (Some m) count ≡ true → Waits m count
 waits m count e =
     record {
       sound = needed (message_sound m) (λ g. simp g at e);

@@ -1,7 +1,7 @@
 -- A table's parts.
-use Rattle.std.specs.Prelude.{ℕ, List, [], get_or, set}
+use Rattle.std.specs.Prelude.{ℕ, List, [], get_or, set, Option}
+use Rattle.rules.specs.declared.message.Message.{Message}
 use Rattle.station.specs.declared.station.Station.{Station}
-use Rattle.pool.specs.declared.places.Waiting.{Waiting}
 use Rattle.pool.specs.Pool.{place_in}
 use Rattle.table.specs.declared.table.Table.{Table}
 
@@ -15,11 +15,11 @@ station_in stations k = get_or stations k station_past_end
 abbrev pub station_at : Table → ℕ → Station
 station_at t k = station_in t.stations k
 
-abbrev pub waiting_at : Table → ℕ → Waiting
+abbrev pub waiting_at : Table → ℕ → Option Message
 waiting_at t p = place_in t.pool p
 
 abbrev pub put_station : Table → ℕ → Station → Table
 put_station t k s = record { count = t.count; stations = set t.stations k s; pool = t.pool }
 
-abbrev pub put_place : Table → ℕ → Waiting → Table
+abbrev pub put_place : Table → ℕ → Option Message → Table
 put_place t p w = record { count = t.count; stations = t.stations; pool = set t.pool p (record { waiting = w }) }

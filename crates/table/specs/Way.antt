@@ -1,10 +1,8 @@
 -- The passes at the stations of a table, and the passes on the way.
-use Rattle.std.specs.Prelude.{ℕ, cond, List, [], ◌∷◌}
+use Rattle.std.specs.Prelude.{ℕ, cond, List, [], ◌∷◌, Option, Some, None}
+use Rattle.rules.specs.declared.held.Token.{Token}
+use Rattle.rules.specs.declared.held.Slot.{Slot}
 use Rattle.ground.specs.Sums.{sum_below}
-use Rattle.rules.specs.declared.held.HeldSlot.{HeldSlot}
-use Rattle.rules.specs.declared.held.HeldSlot.TheVariants.{NoSlot, OneSlot}
-use Rattle.rules.specs.declared.held.HeldToken.{HeldToken}
-use Rattle.rules.specs.declared.held.HeldToken.TheVariants.{NoToken, OneToken}
 use Rattle.ground.specs.Refusals.{Refusal, answer_of}
 use Rattle.ground.specs.declared.told.Told.{Told}
 use Rattle.ground.specs.Told.{told_with}
@@ -15,10 +13,10 @@ use Rattle.table.specs.Table.{station_at}
 use Rattle.table.specs.Sound.{unsound}
 
 -- a token is on the way while its destination has a slot for its maker with both clocks the same
-abbrev pub travels : HeldToken → HeldSlot → ℕ
-travels (OneToken t) (OneSlot l) = cond (agree t l) t.quantity 0
-travels (OneToken t) NoSlot = 0
-travels NoToken h = 0
+abbrev pub travels : Option Token → Option Slot → ℕ
+travels (Some t) (Some l) = cond (agree t l) t.quantity 0
+travels (Some t) None = 0
+travels None h = 0
 
 -- from station i to station j
 abbrev pub between : Table → ℕ → ℕ → ℕ

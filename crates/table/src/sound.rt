@@ -8,7 +8,8 @@ ghost use Rattle.table.specs.Sound.{seat_sound, place_sound, table_sound};
 
 use crate::table::Table;
 use ground::limits::{LEAST_STATIONS, MOST_STATIONS};
-use pool::places::{MOST_PLACES, Place, Waiting};
+use pool::places::{MOST_PLACES, Place};
+use rules::message::Message;
 use station::sound::{message_is_sound, station_is_sound};
 use station::station::Station;
 
@@ -16,57 +17,38 @@ use station::station::Station;
 fn seat_is_sound(s: Station, k: usize, count: usize) -> bool
     ensures { result ≡ seat_sound s k count }
 {
-    if count <= k {
-        return true;
-    }
-    station_is_sound(s) & (s.number == k) & (s.count == count)
+    count <= k || station_is_sound(s) && s.number == k && s.count == count
 }
 
-fn place_is_sound(waiting: Waiting, count: usize) -> bool
+fn place_is_sound(waiting: Option<Message>, count: usize) -> bool
     ensures { result ≡ place_sound waiting count }
 {
-    let Waiting::One(m) = waiting else {
-        return true;
-    };
-    message_is_sound(m) & (m.from < count) & (m.to < count)
+    waiting.is_none_or(|m| message_is_sound(m) && m.from < count && m.to < count)
 }
 
-fn seats_are_sound(stations: [Station; MOST_STATIONS], count: usize) -> bool
-    ensures { result ≡ all_below (λ k. seat_sound (station_in stations k) k count) most_stations }
+fn seats_are_sound(stations: &[Station; MOST_STATIONS], count: usize) -> bool
+    ensures { result ≡ all_below (λ k. seat_sound (station_in stations.now k) k count) most_stations }
 {
-    let mut sound = true;
-    let mut k: usize = 0;
-    while k < MOST_STATIONS {
-        let s = stations[k];
-        sound = sound & seat_is_sound(s, k, count);
-        k = k + 1;
-    }
-    sound
+    stations
+        .iter()
+        .enumerate()
+        .all(|(k, s)| seat_is_sound(*s, k, count))
 }
 
-fn places_are_sound(pool: [Place; MOST_PLACES], count: usize) -> bool
-    ensures { result ≡ all_below (λ p. place_sound (place_in pool p) count) most_places }
+fn places_are_sound(pool: &[Place; MOST_PLACES], count: usize) -> bool
+    ensures { result ≡ all_below (λ p. place_sound (place_in pool.now p) count) most_places }
 {
-    let mut sound = true;
-    let mut p: usize = 0;
-    while p < MOST_PLACES {
-        let place = pool[p];
-        let waiting = place.waiting;
-        sound = sound & place_is_sound(waiting, count);
-        p = p + 1;
-    }
-    sound
+    pool.iter()
+        .all(|place| place_is_sound(place.waiting, count))
 }
 
 // So that who holds a table can test it once and then do steps, which keep it sound.
+#[tactic(auto, unfolding(crate::specs::Sound::table_sound))]
 pub fn table_is_sound(t: Table) -> bool
     ensures { result ≡ table_sound t }
 {
-    let count = t.count;
-    let stations = t.stations;
-    let pool = t.pool;
-    (LEAST_STATIONS <= count)
-        & (count <= MOST_STATIONS)
-        & seats_are_sound(stations, count)
-        & places_are_sound(pool, count)
+    LEAST_STATIONS <= t.count
+        && t.count <= MOST_STATIONS
+        && seats_are_sound(&t.stations, t.count)
+        && places_are_sound(&t.pool, t.count)
 }

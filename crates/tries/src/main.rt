@@ -3,15 +3,15 @@
 #![tactic(auto)]
 
 use ground::clocks::{DestinationClock, SourceClock};
-use pool::places::{Place, Waiting};
-use rules::held::{HeldSlot, HeldToken, Slot, Token};
+use pool::places::Place;
+use rules::held::{Slot, Token};
 use rules::message::Message;
 use station::station::Station;
 use std::io;
 use steps::asked::Step;
 use table::table::Table;
 
-const LARGEST: u64 = 18446744073709551615;
+const LARGEST: u64 = u64::MAX;
 
 fn tell(rt: &impl Print, words: &str, answer: u8, res: u64) -> io::Result<()> {
     println!(rt; "{words} {answer} {res}")
@@ -39,13 +39,13 @@ fn full_message() -> Message {
         to: 1,
         value: 3,
         source: SourceClock(1),
-        destination: DestinationClock(4294967295),
-        slot: HeldSlot::OneSlot(Slot {
+        destination: DestinationClock(u32::MAX),
+        slot: Some(Slot {
             source: SourceClock(0),
-            destination: DestinationClock(4294967294),
+            destination: DestinationClock(u32::MAX - 1),
             quantity: 16000000000,
         }),
-        token: HeldToken::OneToken(Token {
+        token: Some(Token {
             source: SourceClock(0),
             destination: DestinationClock(0),
             quantity: 5,
@@ -53,62 +53,14 @@ fn full_message() -> Message {
     }
 }
 
-// Writes into the first room bytes of a buffer.
-fn write_part(
-    rt: &impl Print,
-    words: &str,
-    m: Message,
-    buffer: &mut [u8],
-    room: usize,
-) -> io::Result<()> {
-    if room <= buffer.len() {
-        let w = record::write(m, &mut buffer[..room]);
-        tell(rt, words, w.answer, w.result)?;
-    }
-    Ok(())
-}
-
-fn message_part(
-    rt: &impl Print,
-    words: &str,
-    s: Station,
-    to: u64,
-    buffer: &mut [u8],
-    room: usize,
-) -> io::Result<()> {
-    if room <= buffer.len() {
-        let w = record::write_message(s, to, &mut buffer[..room]);
-        tell(rt, words, w.answer, w.result)?;
-    }
-    Ok(())
-}
-
-// Reads, and receives, the first size bytes.
-fn read_part(rt: &impl Print, words: &str, bytes: &[u8], size: usize) -> io::Result<()> {
-    if size <= bytes.len() {
-        let r = record::read(&bytes[..size]);
-        tell(rt, words, r.answer, r.result)?;
-    }
-    Ok(())
-}
-
-fn receive_part(
-    rt: &impl Print,
-    words: &str,
-    s: Station,
-    bytes: &[u8],
-    size: usize,
-) -> io::Result<()> {
-    if size <= bytes.len() {
-        let r = record::receive_bytes(s, &bytes[..size]);
-        tell(rt, words, r.answer, r.result)?;
-    }
-    Ok(())
-}
-
+// Writes into the first room bytes.
 fn try_message(rt: &impl Print, words: &str, s: Station, to: u64, room: usize) -> io::Result<()> {
-    let mut buffer = [7u8; 80];
-    message_part(rt, words, s, to, &mut buffer, room)
+    let mut buffer = [7; 80];
+    if let Some(part) = buffer.get_mut(..room) {
+        let w = record::write_message(s, to, part);
+        tell(rt, words, w.answer, w.result)?;
+    }
+    Ok(())
 }
 
 // Writes the message into the first room bytes, and reads the first size bytes back.
@@ -119,17 +71,28 @@ fn try_record(
     room: usize,
     size: usize,
 ) -> io::Result<()> {
-    let mut buffer = [7u8; 80];
-    write_part(rt, words, m, &mut buffer, room)?;
-    read_part(rt, "  read", &buffer, size)
+    let mut buffer = [7; 80];
+    if let Some(part) = buffer.get_mut(..room) {
+        let w = record::write(m, part);
+        tell(rt, words, w.answer, w.result)?;
+    }
+    if let Some(part) = buffer.get(..size) {
+        let r = record::read(part);
+        tell(rt, "  read", r.answer, r.result)?;
+    }
+    Ok(())
 }
 
-// The full record with another sender, received.
+// The first size bytes of the full record with another sender, received.
 fn try_sender(rt: &impl Print, words: &str, s: Station, from: u8, size: usize) -> io::Result<()> {
-    let mut buffer = [7u8; 80];
+    let mut buffer = [7; 80];
     record::write(full_message(), &mut buffer);
     buffer[3] = from;
-    receive_part(rt, words, s, &buffer, size)
+    if let Some(part) = buffer.get(..size) {
+        let r = record::receive_bytes(s, part);
+        tell(rt, words, r.answer, r.result)?;
+    }
+    Ok(())
 }
 
 fn fresh_stations(rt: &impl Print) -> io::Result<()> {
@@ -168,8 +131,7 @@ fn all_or_none(rt: &impl Print, five: Station) -> io::Result<()> {
 }
 
 fn no_station(rt: &impl Print) -> io::Result<()> {
-    let none = station::fresh(0, 0);
-    let unsound = none.station;
+    let unsound = station::fresh(0, 0).station;
     try_add(rt, "add at no station", unsound, 1)?;
     try_draw(rt, "draw at no station", unsound, 1)?;
     try_message(rt, "message of no station", unsound, 1, 80)
@@ -186,16 +148,13 @@ fn messages(rt: &impl Print, s: Station) -> io::Result<()> {
 }
 
 fn stations(rt: &impl Print) -> io::Result<()> {
-    let r = station::fresh(1, 2);
-    let s = r.station;
+    let s = station::fresh(1, 2).station;
     adds(rt, s)?;
-    let full = station::add(s, 1000000000);
-    let rich = full.station;
+    let rich = station::add(s, 1000000000).station;
     draws(rt, rich)?;
     try_draw(rt, "draw from nothing", s, 1)?;
     try_draw(rt, "draw largest", rich, LARGEST)?;
-    let few = station::add(s, 5);
-    all_or_none(rt, few.station)?;
+    all_or_none(rt, station::add(s, 5).station)?;
     no_station(rt)?;
     messages(rt, s)
 }
@@ -217,22 +176,20 @@ fn records(rt: &impl Print) -> io::Result<()> {
         rules::message::no_message(),
         80,
         30,
-    )?;
-    Ok(())
+    )
 }
 
 fn received(rt: &impl Print) -> io::Result<()> {
-    let r = station::fresh(1, 2);
-    let s = r.station;
-    let other = station::fresh(0, 2);
-    let none = station::fresh(0, 0);
+    let s = station::fresh(1, 2).station;
+    let other = station::fresh(0, 2).station;
+    let none = station::fresh(0, 0).station;
     try_sender(rt, "receive 68 bytes", s, 0, 68)?;
     try_sender(rt, "receive 67 bytes", s, 0, 67)?;
     try_sender(rt, "receive no bytes", s, 0, 0)?;
-    try_sender(rt, "receive for another", other.station, 0, 49)?;
+    try_sender(rt, "receive for another", other, 0, 49)?;
     try_sender(rt, "receive from 2 of 2", s, 2, 68)?;
     try_sender(rt, "receive from itself", s, 1, 68)?;
-    try_sender(rt, "receive at no station", none.station, 0, 67)
+    try_sender(rt, "receive at no station", none, 0, 67)
 }
 
 // One step, told; the table after it.
@@ -244,25 +201,25 @@ fn go(rt: &impl Print, words: &str, t: Table, s: Step) -> io::Result<Table> {
 
 // The script that the rules work out by hand: until a token is made, and from then on.
 fn asked_for(rt: &impl Print, t: Table) -> io::Result<Table> {
-    let a = go(rt, "add 0 10", t, Step::Add(0, 10))?;
-    let b = go(rt, "send 0 1", a, Step::Send(0, 1))?;
-    let c = go(rt, "deliver 0", b, Step::Deliver(0))?;
-    let d = go(rt, "send 1 0", c, Step::Send(1, 0))?;
-    go(rt, "deliver 1", d, Step::Deliver(1))
+    let t = go(rt, "add 0 10", t, Step::Add(0, 10))?;
+    let t = go(rt, "send 0 1", t, Step::Send(0, 1))?;
+    let t = go(rt, "deliver 0", t, Step::Deliver(0))?;
+    let t = go(rt, "send 1 0", t, Step::Send(1, 0))?;
+    go(rt, "deliver 1", t, Step::Deliver(1))
 }
 
 fn landed(rt: &impl Print, t: Table) -> io::Result<Table> {
-    let f = go(rt, "draw 0 7", t, Step::Draw(0, 7))?;
-    let g = go(rt, "send 0 1", f, Step::Send(0, 1))?;
-    let h = go(rt, "deliver 2", g, Step::Deliver(2))?;
-    let i = go(rt, "deliver 2", h, Step::Deliver(2))?;
-    let k = go(rt, "lose 2", i, Step::Lose(2))?;
-    go(rt, "send 0 0", k, Step::Send(0, 0))
+    let t = go(rt, "draw 0 7", t, Step::Draw(0, 7))?;
+    let t = go(rt, "send 0 1", t, Step::Send(0, 1))?;
+    let t = go(rt, "deliver 2", t, Step::Deliver(2))?;
+    let t = go(rt, "deliver 2", t, Step::Deliver(2))?;
+    let t = go(rt, "lose 2", t, Step::Lose(2))?;
+    go(rt, "send 0 0", t, Step::Send(0, 0))
 }
 
 fn worked(rt: &impl Print) -> io::Result<()> {
-    let made = table::fresh_table(2);
-    let last = landed(rt, asked_for(rt, made.table)?)?;
+    let asked = asked_for(rt, table::fresh_table(2).table)?;
+    let last = landed(rt, asked)?;
     let way = table::on_the_way(last);
     tell(rt, "on the way", way.answer, way.result)?;
     let values = table::at_stations(last);
@@ -309,33 +266,27 @@ fn edges(rt: &impl Print) -> io::Result<()> {
 // One step on a pool, told; the pool after it.
 fn put(rt: &impl Print, words: &str, pool: [Place; 64], m: Message) -> io::Result<[Place; 64]> {
     let r = pool::lent::send_value(pool, m);
-    let told = r.told;
-    tell(rt, words, told.answer, told.result)?;
+    tell(rt, words, r.told.answer, r.told.result)?;
     Ok(r.pool)
 }
 
 fn clear(rt: &impl Print, words: &str, pool: [Place; 64], p: u64) -> io::Result<[Place; 64]> {
     let r = pool::lent::lose_value(pool, p);
-    let told = r.told;
-    tell(rt, words, told.answer, told.result)?;
+    tell(rt, words, r.told.answer, r.told.result)?;
     Ok(r.pool)
 }
 
 // The pool by itself.
 fn pools(rt: &impl Print) -> io::Result<()> {
     let m = full_message();
-    let empty = Place {
-        waiting: Waiting::Empty,
-    };
-    let a = put(rt, "send into an empty pool", [empty; 64], m)?;
-    let b = put(rt, "send again", a, m)?;
-    let c = clear(rt, "lose place 0", b, 0)?;
-    let d = put(rt, "send into the freed place", c, m)?;
-    let e = clear(rt, "lose an empty place", d, 2)?;
-    clear(rt, "lose place 64", e, 64)?;
-    let taken = Place {
-        waiting: Waiting::One(m),
-    };
+    let empty = Place { waiting: None };
+    let pool = put(rt, "send into an empty pool", [empty; 64], m)?;
+    let pool = put(rt, "send again", pool, m)?;
+    let pool = clear(rt, "lose place 0", pool, 0)?;
+    let pool = put(rt, "send into the freed place", pool, m)?;
+    let pool = clear(rt, "lose an empty place", pool, 2)?;
+    clear(rt, "lose place 64", pool, 64)?;
+    let taken = Place { waiting: Some(m) };
     put(rt, "send into a full pool", [taken; 64], m)?;
     Ok(())
 }

@@ -1,37 +1,43 @@
-use mathlib.Core.Path.{◌≡◌, ◌∙◌}
+use Prim.Native.Nat.{ℕ}
+use mathlib.Core.Path.{◌≡◌}
 use native.Mathlib.Omega.{arith}
 use lib.ListN.{replicate}
-use Rattle.station.specs.Held.{no_slot, no_token}
-use Rattle.quynhabet.specs.Layout.{slot_cell, token_cell, slots_of, tokens_of}
-use Rattle.quynhabet.proofs.Fitting.{cell_fits}
+use Rattle.std.proofs.Common.{None}
+use Rattle.quynhabet.specs.Layout.{place_from, four_fits, fits_at, cell_at, cells_of}
+use Rattle.ground.proofs.Below.{all_none, all_more}
 use Rattle.ground.proofs.InTurn.{turn_none, turn_one, length_ones}
 use Rattle.ground.proofs.Stores.{whole}
-use borrow.Author.Rules.{rules}
+use Rattle.quynhabet.proofs.Fitting.{all_fails, read_lem, not_read}
 use Rattle.quynhabet.proofs.stations.cells_of.Goals as goal
 
 pub loop-k-init : goal.loop-k-init
-loop-k-init c = (search rules, turn_none _ _ _, turn_none _ _ _)
-
-pub slot_of-requires : goal.slot_of-requires
-slot_of-requires c = rw c.four_at-slot.ensures (cell_fits c.args.numbers c.loop-k.k c.requires (omega arith)).slot
-
-pub token_of-requires : goal.token_of-requires
-token_of-requires c = rw c.four_at-token.ensures (cell_fits c.args.numbers c.loop-k.k c.requires (omega arith)).token
+loop-k-init g c = record { fit = all_none _; read = turn_none _ _ _ }
 
 pub loop-k-preserved : goal.loop-k-preserved
-loop-k-preserved c =
+loop-k-preserved g c =
     let at = c.loop-k in
-    let n = c.args.numbers in (
-      omega arith,
-      rw (c.slot_of.ensures, c.four_at-slot.ensures) (turn_one (slot_cell n) (replicate 16 no_slot) at.k at.slots at.invariant.1),
-      rw (c.token_of.ensures, c.four_at-token.ensures) (turn_one (token_cell n) (replicate 16 no_token) at.k at.tokens at.invariant.2),
-    )
+    let n = c.args.numbers.now in
+    let f = λ (k : ℕ). cell_at g.H.Held.held_on n (place_from c.args.at k) in
+    let r = read_lem (four_fits c.four_at.result) _ _ c.cell_of.result c.in_ok-cell.was c.cell_of.ensures in
+    let here = rw c.four_at.ensures at r.0 in
+    record {
+      fit = rw (all_more (fits_at n (place_from c.args.at)) at.k, at.invariant.fit, here);
+      read = rw (r.1, c.four_at.ensures) (turn_one f (replicate 16 (record { held = None })) at.k at.cell-items at.invariant.read);
+    }
+
+pub returns-in_err-cell : goal.returns-in_err-cell
+returns-in_err-cell g c =
+    let n = c.args.numbers.now in
+    let fails = not_read (four_fits c.four_at.result) _ c.cell_of.result c.in_err-cell.was c.cell_of.ensures in
+    let here = rw c.four_at.ensures at fails in
+    let none = all_fails (fits_at n (place_from c.args.at)) 16 c.loop-k.k here (omega arith) in
+    rw none c.from_residual.ensures
 
 pub returns : goal.returns
-returns c =
+returns g c =
     let at = c.loop-k in
-    let n = c.args.numbers in
-    let e : at.k ≡ 16 = omega arith in (
-      rw e at at.invariant.1 ∙ whole (replicate 16 no_slot) (slots_of n) (length_ones (slot_cell n) 16),
-      rw e at at.invariant.2 ∙ whole (replicate 16 no_token) (tokens_of n) (length_ones (token_cell n) 16),
-    )
+    let f = λ (k : ℕ). cell_at g.H.Held.held_on c.args.numbers.now (place_from c.args.at k) in
+    let e : at.k ≡ 16 = omega arith in
+    let fit = rw e at at.invariant.fit in
+    let read = rw e at at.invariant.read in
+    rw (fit, read, whole (replicate 16 (record { held = None })) (cells_of g.H.Held.held_on c.args.numbers.now (place_from c.args.at)) (length_ones f 16))

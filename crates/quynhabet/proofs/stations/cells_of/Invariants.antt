@@ -1,18 +1,17 @@
-use Prim.Native.Nat.{◌≤◌, ◌-◌}
 use mathlib.Core.Path.{◌≡◌}
+use mathlib.Core.Bool.{true}
 use mathlib.Core.List.{[], ◌∷◌}
 use lib.ListN.{replicate}
 use lib.Seq.{sets}
-use Rattle.station.specs.Held.{no_slot, no_token}
+use Rattle.std.proofs.Common.{None}
+use Rattle.ground.specs.Below.{all_below}
 use Rattle.ground.specs.InTurn.{in_turn}
-use Rattle.quynhabet.specs.Layout.{slot_cell, token_cell}
+use Rattle.quynhabet.specs.Layout.{place_from, fits_at, cell_at}
 use Rattle.quynhabet.proofs.stations.cells_of.Given as goal
 
 abbrev pub invariant-loop-k : goal.invariant-loop-k
-invariant-loop-k l =
-    (l.k ≤ 16)
-    × (l.slots ≡ sets (replicate 16 no_slot) 0 (in_turn (λ j. slot_cell l.numbers j ∷ []) l.k))
-    × (l.tokens ≡ sets (replicate 16 no_token) 0 (in_turn (λ j. token_cell l.numbers j ∷ []) l.k))
-
-abbrev pub decreases-loop-k : goal.decreases-loop-k
-decreases-loop-k l = 16 - l.k
+invariant-loop-k g l =
+    record {
+      fit : all_below (fits_at l.numbers (place_from l.at)) l.k ≡ true;
+      read : l.cell-items ≡ sets (replicate 16 (record { held = None })) 0 (in_turn (λ j. cell_at g.H.Held.held_on l.numbers (place_from l.at j) ∷ []) l.k);
+    }

@@ -13,6 +13,7 @@ unfolding numbers_of
 returns c =
     let s = c.args.s in
     let zeros : List ℕ = replicate 134 0 in
-    let one = then zeros 0 6 (first_numbers s) (slots_numbers s) _ _ refl c.put_slots.ensures refl in
-    let two = then zeros 0 70 (first_numbers s ++ slots_numbers s) (tokens_numbers s) _ _ one c.put_tokens.ensures (zero-add _ ∙ length_front s) in
+    let first = rw c.copy_from_slice.ensures.after at c.put_cells.ensures in
+    let one = then zeros 0 6 (first_numbers s) (slots_numbers s) _ _ refl first refl in
+    let two = then zeros 0 70 (first_numbers s ++ slots_numbers s) (tokens_numbers s) _ _ one c.put_cells-2.ensures (zero-add _ ∙ length_front s) in
     two ∙ whole zeros (first_numbers s ++ slots_numbers s ++ tokens_numbers s) (length_numbers s)

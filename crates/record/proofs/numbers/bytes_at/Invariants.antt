@@ -1,10 +1,7 @@
-use Prim.Native.Nat.{◌≤◌, ◌<◌, ◌-◌, ◌^◌}
+use Prim.Native.Nat.{◌<◌, ◌^◌}
 use mathlib.Core.Path.{◌≡◌}
 use Rattle.record.specs.Numbers.{number_at}
 use Rattle.record.proofs.numbers.bytes_at.Given as goal
 
-abbrev pub invariant-loop-k : goal.invariant-loop-k
-invariant-loop-k l = record { within : l.k ≤ l.size; number : l.x ≡ number_at l.bytes l.at l.k; below : l.x < 256 ^ l.k }
-
-abbrev pub decreases-loop-k : goal.decreases-loop-k
-decreases-loop-k l = l.size - l.k
+abbrev pub invariant-loop-byte : goal.invariant-loop-byte
+invariant-loop-byte l = record { number : l.x ≡ number_at l.bytes l.at l.byte-index; below : l.x < 256 ^ l.byte-index }

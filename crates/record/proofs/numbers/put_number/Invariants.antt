@@ -1,4 +1,3 @@
-use Prim.Native.Nat.{◌≤◌}
 use mathlib.Core.Path.{◌≡◌}
 use lib.Seq.{sets}
 use Rattle.record.specs.Numbers.{big}
@@ -6,7 +5,4 @@ use Rattle.record.proofs.numbers.put_number.Given as goal
 
 -- what is still to be stored, stored now, gives the end result
 abbrev pub invariant-loop-k : goal.invariant-loop-k
-invariant-loop-k l = record { within : l.k ≤ l.size; put : sets l.buffer l.at (big l.k l.rest) ≡ sets l.initial.buffer l.at (big l.size l.x) }
-
-abbrev pub decreases-loop-k : goal.decreases-loop-k
-decreases-loop-k l = l.k
+invariant-loop-k l = sets l.buffer l.at (big l.k l.rest) ≡ sets l.initial.buffer l.at (big l.size l.x)

@@ -1,27 +1,33 @@
-use Prim.Native.Nat.{◌+◌}
-use mathlib.Core.List.{◌++◌}
-use native.Mathlib.Omega.{arith}
-use lib.ListN.{length-append}
-use Rattle.record.specs.Writing.{front, slot_bytes, token_bytes}
-use Rattle.ground.proofs.Stores.{then}
-use Rattle.record.proofs.Digits.{length_big}
-use Rattle.record.proofs.Lengths.{parts, length_record}
+use mathlib.Core.Path.{refl, sym}
+use Rattle.record.proofs.Lengths.{as_put}
+use Rattle.record.proofs.Sheets.{puts_both, puts_none, room_first, room_left}
 use Rattle.record.proofs.writing.put_record.Goals as goal
 
-pub put_front-requires : goal.put_front-requires
-put_front-requires c = omega (arith, length_record c.args.m)
+pub field-requires-2 : goal.field-requires-2
+field-requires-2 c = room_first _ (room_left (rw as_put at c.requires) c.field.ensures)
 
-pub put_slot_field-requires : goal.put_slot_field-requires
-put_slot_field-requires c = omega (arith, length_record c.args.m)
+pub field-requires-3 : goal.field-requires-3
+field-requires-3 c = room_first _ (room_left (room_left (rw as_put at c.requires) c.field.ensures) c.field-2.ensures)
 
-pub put_token_field-requires : goal.put_token_field-requires
-put_token_field-requires c = omega (arith, length_record c.args.m)
+pub clocks_field-requires : goal.clocks_field-requires
+clocks_field-requires c =
+    let second = room_left (room_left (rw as_put at c.requires) c.field.ensures) c.field-2.ensures in
+    (refl, room_first _ (room_left second c.field-3.ensures))
+
+pub held_field-requires : goal.held_field-requires
+held_field-requires c =
+    let second = room_left (room_left (rw as_put at c.requires) c.field.ensures) c.field-2.ensures in
+    (refl, room_first _ (room_left (room_left second c.field-3.ensures) c.clocks_field.ensures))
+
+pub held_field-requires-2 : goal.held_field-requires-2
+held_field-requires-2 c =
+    let second = room_left (room_left (rw as_put at c.requires) c.field.ensures) c.field-2.ensures in
+    let fourth = room_left (room_left second c.field-3.ensures) c.clocks_field.ensures in
+    (refl, room_first _ (room_left fourth c.held_field.ensures))
 
 pub returns : goal.returns
 returns c =
-    let slot = c in
-    let a = slot.args in
-    let e = then a.buffer.now 0 30 (front a.m) (slot_bytes a.m.slot) _ _ slot.put_front.ensures slot.put_slot_field.ensures (simp (length-append, length_big)) in
-    rw (parts a.m)
-    (then a.buffer.now 0 (30 + c.slot_size.result) (front a.m ++ slot_bytes a.m.slot) (token_bytes a.m.token) _ _ e c.put_token_field.ensures
-    (simp (length-append, length_big) (omega arith)))
+    let token = puts_both c.held_field-2.ensures (puts_none c.held_field-2.new.self) refl in
+    let held = puts_both c.held_field.ensures token refl in
+    let later = puts_both c.field-3.ensures (puts_both c.clocks_field.ensures held refl) refl in
+    puts_both c.field.ensures (puts_both c.field-2.ensures later refl) (sym (as_put c.args.m))

@@ -1,36 +1,33 @@
+use Rattle.std.proofs.Common.{rules, ◌≡◌, ◌≤◌, ℕ}
 use native.Mathlib.Omega.{arith}
-use borrow.Author.Rules.{rules}
-use mathlib.Core.Path.{◌≡◌, refl, ap, ◌∙◌}
-use lib.ListN.{length}
-use lib.Seq.{length-sets}
-use Rattle.script.proofs.Closings.{length_stations, no_stations, station_turn, stations_put}
+use mathlib.Core.Path.{sym, ap}
+use lib.ListN.{length, length-take}
+use lib.Seq.{get_or-take, length-take-le}
+use Rattle.script.specs.Script.{station_lines}
+use Rattle.script.proofs.Closings.{length_stations, more_stations, no_stations}
+use Rattle.script.proofs.Puts.{puts_both, puts_none, puts_to, room_left}
 use Rattle.script.proofs.closing.put_stations.Goals as goal
 
 pub loop-k-init : goal.loop-k-init
-loop-k-init c = (search rules, refl, rw no_stations (omega arith), rw no_stations)
+loop-k-init c = puts_to (sym (no_stations c.args.t)) (puts_none c.args.page.now)
 
-pub offset_bounds-t-k : goal.offset_bounds-t-k
-offset_bounds-t-k c = omega (arith, c.requires.0)
-
-pub bounds-t-k : goal.bounds-t-k
-bounds-t-k c = omega (arith, c.requires.0)
-
-pub put_seat-next-requires : goal.put_seat-next-requires
-put_seat-next-requires c =
-    let a = c.args in
+pub put_station-requires : goal.put_station-requires
+put_station-requires c =
     let at = c.loop-k in
-    omega (arith, length_stations a.t at.k, c.requires.0, c.requires.1, at.invariant.1, at.invariant.2, c.loop-k-test.true)
+    room_left 2048 128 c.requires.1 at.invariant (omega (arith, length_stations c.args.t at.k, c.requires.0, rw length-take at c.loop-k-test.true))
 
 pub loop-k-preserved : goal.loop-k-preserved
 loop-k-preserved c =
-    let a = c.args in
+    let t = c.args.t in
     let at = c.loop-k in
-    let turn = station_turn a.out.now 0 a.t at.k _ _ _ _ (at.invariant.2, at.invariant.3) c.put_seat-next.ensures in
-    (omega arith, ap length turn.1 ∙ simp length-sets, turn.0, turn.1)
+    let below = rw length-take at c.loop-k-test.true in
+    let put = rw (get_or-take t.count t.stations at.k _ (omega (arith, below))) at c.put_station.ensures in
+    puts_both at.invariant put (sym (more_stations t at.k))
 
 pub returns : goal.returns
 returns c =
-    let a = c.args in
+    let t = c.args.t in
     let at = c.loop-k in
-    let e : at.k ≡ a.t.count = omega (arith, at.invariant.0, c.loop-k-test.false) in
-    stations_put a.out.now 0 a.t _ _ _ _ e (at.invariant.2, at.invariant.3)
+    let wide : t.count ≤ length t.stations = search rules in
+    let all : at.k ≡ t.count = omega (arith, length-take-le t.count t.stations wide) in
+    puts_to (ap (λ (n : ℕ). station_lines t n) all) at.invariant

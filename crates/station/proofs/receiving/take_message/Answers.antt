@@ -1,5 +1,4 @@
-use mathlib.Core.Path.{ap, sym, ◌∙◌}
-use native.Mathlib.Omega.{arith}
+use Rattle.std.proofs.Common.{ap, sym, ◌∙◌, arith}
 use Rattle.rules.specs.declared.side.Side.{Side}
 use Rattle.rules.specs.declared.taking.Taken.{Taken}
 use Rattle.rules.specs.Taking.{taken_of}
@@ -15,21 +14,18 @@ side_for-requires c =
 
 pub returns-then-taken-ne-DONE : goal.returns-then-taken-ne-DONE
 returns-then-taken-ne-DONE c =
-    let at = c in
-    let a = at.args in
-    let t = at.take-taken.ensures ∙ ap (λ (x : Side). taken_of x a.m) at.side_for.ensures in
-    c.refuse.ensures ∙ rw t (receive_refused a.s a.m at.requires (λ e. c.if-taken-ne-DONE.true (ap (λ (x : Taken). x.answer) t ∙ e)))
+    let a = c.args in
+    let t = c.take-taken.ensures ∙ ap (λ (x : Side). taken_of x a.m) c.side_for.ensures in
+    c.refuse.ensures ∙ receive_refused a.s a.m c.requires (λ e. c.if-taken-ne-DONE.true (ap (λ (x : Taken). x.answer) t ∙ e))
 
 pub put_side-requires : goal.put_side-requires
 put_side-requires c =
-    let at = c in
-    let m = message_parts at.args.m (met at.args.s at.args.m at.requires).message in
+    let m = message_parts c.args.m (met c.args.s c.args.m c.requires).message in
     omega (arith, m.from)
 
 pub returns : goal.returns
 returns c =
-    let at = c in
-    let a = at.args in
-    let t = at.take-taken.ensures ∙ ap (λ (x : Side). taken_of x a.m) at.side_for.ensures in
+    let a = c.args in
+    let t = c.take-taken.ensures ∙ ap (λ (x : Side). taken_of x a.m) c.side_for.ensures in
     rw (c.put_side.ensures, t)
-    (receive_done a.s a.m at.requires (ap (λ (x : Taken). x.answer) (sym t) ∙ c.if-taken-ne-DONE.false))
+    (receive_done a.s a.m c.requires (ap (λ (x : Taken). x.answer) (sym t) ∙ c.if-taken-ne-DONE.false))
