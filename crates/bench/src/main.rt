@@ -1,11 +1,24 @@
 // The bench program: reads a script, hands it over, and writes what it gets.
 #![tactic(auto)]
 
-ghost use Rattle.std.specs.Prelude.{◌≤◌, length, IfOk};
+ghost use Rattle.std.specs.Prelude.{◌≡◌, ◌≤◌, length, IfOk};
 
 use ground::answers;
 use script::starting::Run;
 use std::io::{self, Read};
+
+// One byte more than the longest script, so that a longer one is seen.
+fn in_buffer() -> [u8; 65537]
+    ensures { 65537 ≡ length result }
+{
+    [0; 65537]
+}
+
+fn out_buffer() -> [u8; 65536]
+    ensures { 65536 ≡ length result }
+{
+    [0; 65536]
+}
 
 // Reads until the buffer is full or nothing more comes: how many bytes came.
 fn read_full(from: &mut impl Read, buffer: &mut [u8]) -> io::Result<usize>
@@ -47,9 +60,8 @@ fn write_output(rt: &impl Print, input: &[u8], out: &mut [u8]) -> io::Result<()>
 }
 
 fn main(rt: HostRuntime) -> io::Result<()> {
-    // one byte more than the longest script, so that a longer one is seen
-    let mut input = [0; 65537];
-    let mut output = [0; 65536];
+    let mut input = in_buffer();
+    let mut output = out_buffer();
     let size = read_full(&mut rt.reader(), &mut input)?;
     write_output(&rt, &input[..size], &mut output)
 }
