@@ -3,7 +3,7 @@ use Rattle.std.proofs.Common.{Option}
 use Prim.Native.Nat.{ℕ, suc, ◌+◌, ◌*◌, ◌-◌, ◌<◌, ◌≤◌}
 use mathlib.Core.Path.{◌≡◌}
 use mathlib.Core.List.{List, [], ◌∷◌}
-use native.Mathlib.Nat.{add-zero}
+use native.Mathlib.Nat.{add-zero, sub-zero}
 use native.Mathlib.Omega.{arith}
 use Rattle.steps.specs.declared.asked.Step.{Step}
 use lib.ListN.{get_or, drop}
@@ -14,6 +14,9 @@ use Rattle.steps.specs.Running.{asked_by, asked_in}
 -- what is left to be asked for past n steps
 abbrev pub asked_from : List ℕ → ℕ → ℕ → List (Option Step)
 asked_from codes steps n = asked_in (steps - n) (drop (3 * n) codes)
+
+pub asked_start : (codes : List ℕ) (steps : ℕ) → asked_from codes steps 0 ≡ asked_in steps codes
+asked_start codes steps = rw (sub-zero steps)
 
 pub asked_on : (codes : List ℕ) (steps n : ℕ) → n < steps
     → asked_from codes steps n ≡ asked_by (get_or codes (3 * n) 0) (get_or codes (3 * n + 1) 0) (get_or codes (3 * n + 2) 0) ∷ asked_from codes steps (n + 1)

@@ -1,5 +1,6 @@
 -- What the stations hold, in one row: a cell of it is what one station holds for another, and stays
--- so when a station is put anew. No code keeps such a row. Assumes nothing.
+-- so when a station is put anew. No code keeps such a row; what a step does to it is said in Row.
+-- Assumes nothing.
 use Rattle.std.proofs.Common.{None}
 use Prim.Native.Nat.{ℕ, zero, suc, ◌+◌, ◌*◌, ◌/◌, ◌%◌, ◌<◌}
 use mathlib.Core.Path.{◌≡◌, refl, sym, ◌∙◌, ap}

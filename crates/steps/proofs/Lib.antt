@@ -10,3 +10,4 @@ pub mod Kept
 pub mod Same
 pub mod LentSame
 pub mod Lowest
+pub mod Row

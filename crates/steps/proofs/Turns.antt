@@ -22,7 +22,7 @@ use Rattle.table.specs.Table.{station_at, waiting_at}
 use Rattle.table.specs.Sound.{table_sound}
 use Rattle.steps.specs.Running.{asked_by, asked_step, tells, asked_in, all_told, left_by, ran_by}
 use Rattle.steps.specs.Planning.{plan_at, changed}
-use Rattle.steps.proofs.AskedFrom.{asked_from, asked_on, asked_ended}
+use Rattle.steps.proofs.AskedFrom.{asked_from, asked_start, asked_on, asked_ended}
 use Rattle.steps.proofs.InPlace.{placed}
 use Rattle.steps.proofs.Kept.{asked_keeps}
 
@@ -35,6 +35,11 @@ pub record Going (codes told₀ : List ℕ) (steps : ℕ) (t₀ : Table) (told :
   pub flags : taken ≡ flags_of t.pool
   pub left : left_by t (asked_from codes steps n) ≡ left_by t₀ (asked_in steps codes)
   pub says : sets told (5 * n) (all_told t (asked_from codes steps n)) ≡ sets told₀ 0 (all_told t₀ (asked_in steps codes))
+
+pub set_out : (codes told : List ℕ) (steps : ℕ) {taken : List Bool} (t : Table) → table_sound t ≡ true → taken ≡ flags_of t.pool → Going codes told steps t told t taken 0
+set_out codes told steps t e f =
+    let start = asked_start codes steps in
+    record { count = omega arith; room = refl; sound = e; flags = f; left = rw start; says = rw start }
 
 module _ {codes told₀ : List ℕ} {steps : ℕ} {t₀ : Table} {told : List ℕ} {t : Table} {taken : List Bool} {n : ℕ}
     (g : Going codes told₀ steps t₀ told t taken n) where

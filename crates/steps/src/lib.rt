@@ -3,7 +3,7 @@
 
 pub mod asked;
 mod looking;
-mod planning;
+pub mod planning;
 pub mod running;
 pub mod stepping;
 mod taken;

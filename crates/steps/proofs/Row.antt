@@ -1,0 +1,79 @@
+-- The row of what the stations hold for each other, and the steps of a table: a step looks at one of
+-- the row, and changes that one or none. Assumes nothing.
+use Rattle.std.proofs.Common.{Option, Some, None}
+use Prim.Native.Nat.{ℕ, ◌+◌, ◌*◌, ◌<◌}
+use mathlib.Core.Path.{◌≡◌, refl, sym, ◌∙◌, ap}
+use mathlib.Core.Bool.{Bool, true, false, cond}
+use native.Mathlib.Omega.{arith}
+use borrow.Author.Tests.{ltb-true}
+use lib.Dec.{ltb}
+use lib.ListN.{get_or, set}
+use Rattle.rules.specs.declared.message.Message.{Message}
+use Rattle.ground.specs.Limits.{most_stations}
+use Rattle.ground.proofs.Stores.{set_same, stored}
+use Rattle.station.specs.Side.{side_for}
+use Rattle.station.specs.Steps.{put_stock}
+use Rattle.steps.specs.declared.asked.Step.{Step}
+use Rattle.steps.specs.declared.asked.Step.TheVariants.{Add, Draw, Send, Deliver, Lose}
+use Rattle.steps.specs.declared.planning.Change.{Change}
+use Rattle.steps.specs.declared.planning.Change.TheVariants.{Nothing, AtStock, AtSide, AtPlace}
+use Rattle.table.specs.declared.stepped.Stepped.{Stepped}
+use Rattle.table.specs.declared.table.Table.{Table}
+use Rattle.pool.specs.Pool.{most_places}
+use Rattle.table.specs.Table.{station_past_end, station_at, waiting_at}
+use Rattle.table.specs.Sound.{table_sound}
+use Rattle.steps.specs.Cells.{Cells, cells_for, cells_of}
+use Rattle.steps.specs.Looking.{below, place_looked_at, seat_looked_at, flags_of, free_for}
+use Rattle.steps.specs.Planning.{plan_at, changed}
+use Rattle.steps.specs.Running.{asked_step}
+use Rattle.steps.proofs.Held.{no_cells, cells_at, cells_same, side_put}
+use Rattle.steps.proofs.InPlace.{placed}
+
+module _ (t : Table) (k j : ℕ) (h : k < most_stations) (g : j < most_stations) where
+  -- the slot and the token that a step looks at are one of the row
+  pub looked_at_one : let x = side_for (station_at t k) j in get_or (cells_of t.stations) (16 * k + j) no_cells ≡ record { slot = x.slot; token = x.token }
+  looked_at_one = cells_at t.stations k j h g
+
+  one_again : (v : Cells) → v ≡ cells_for (station_at t k) j → set (cells_of t.stations) (16 * k + j) v ≡ cells_of t.stations
+  one_again v e = rw (e, ← cells_at t.stations k j h g) (set_same (cells_of t.stations) (16 * k + j) no_cells)
+
+  -- what a plan changes is that one, or none
+  pub changes_one : (c : Change) → let next = changed t k j c in set (cells_of t.stations) (16 * k + j) (cells_for (station_at next k) j) ≡ cells_of next.stations
+  changes_one Nothing = one_again _ refl
+  changes_one (AtStock value intake) =
+      let s = put_stock (station_at t k) value intake in
+      one_again _ (stored (λ v. cells_for v j ≡ cells_for (station_at t k) j) t.stations k k station_past_end (λ e. refl) refl)
+      ∙ sym (cells_same t.stations k s (λ i. refl))
+  changes_one (AtSide x) = side_put t.stations k j _ h g refl refl
+  changes_one (AtPlace p w) = one_again _ refl
+
+-- the station and the peer that a step looks at
+below_most : (n : ℕ) → below n most_stations < most_stations
+below_most n = by (ltb n most_stations) refl
+  where
+    by : (b : Bool) → ltb n most_stations ≡ b → cond b n 0 < most_stations
+    by true e = ltb-true n most_stations e
+    by false e = omega arith
+
+seat_small : (asked : Option Step) (w : Option Message) → let l = seat_looked_at asked w in (l.station < most_stations) × (l.peer < most_stations)
+seat_small None w = (below_most 0, below_most 0)
+seat_small (Some (Add k amount)) w = (below_most k, below_most 0)
+seat_small (Some (Draw k amount)) w = (below_most k, below_most 0)
+seat_small (Some (Send from to)) w = (below_most from, below_most to)
+seat_small (Some (Deliver p)) None = (below_most 0, below_most 0)
+seat_small (Some (Deliver p)) (Some m) = (below_most m.to, below_most m.from)
+seat_small (Some (Lose p)) w = (below_most 0, below_most 0)
+
+-- whatever is asked of a sound table, the row that it leaves is the one that was there, but for
+-- what the one station holds for the one peer that the step looks at
+pub step_changes_one : (t : Table) → table_sound t ≡ true → (asked : Option Step) → let l = seat_looked_at asked (waiting_at t (below (place_looked_at asked) most_places)) in
+    let next = (asked_step t asked).table in
+    set (cells_of t.stations) (16 * l.station + l.peer) (cells_for (station_at next l.station) l.peer) ≡ cells_of next.stations
+step_changes_one t sound asked =
+    let w = waiting_at t (below (place_looked_at asked) most_places) in
+    let l = seat_looked_at asked w in
+    let small = seat_small asked w in
+    let x = side_for (station_at t l.station) l.peer in
+    let plan = plan_at t.count asked (station_at t l.station).intake x w (free_for asked (flags_of t.pool)) in
+    let e : changed t l.station l.peer plan.change ≡ (asked_step t asked).table = ap (λ (s : Stepped). s.table) (placed t sound asked) in
+    rw (← e) (changes_one t l.station l.peer small.0 small.1 plan.change)
