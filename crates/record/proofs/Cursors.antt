@@ -3,6 +3,7 @@
 use Rattle.std.proofs.Common.{Ok, Err}
 use Prim.Native.Nat.{ℕ, ◌+◌, ◌≤◌}
 use mathlib.Core.Path.{◌≡◌, refl, ap, sym, ◌∙◌}
+use mathlib.Core.Logic.{◌⊎◌, inl, inr}
 use mathlib.Core.List.{List, [], ◌∷◌, ◌++◌}
 use mathlib.Core.Bool.{Bool, true, false}
 use native.Mathlib.Omega.{arith}
@@ -10,10 +11,10 @@ use lib.ListN.{length}
 use Rattle.record.specs.declared.faults.Fault.{Fault}
 use Rattle.record.specs.declared.faults.FaultKind.TheVariants.{UnsoundNumber}
 use Rattle.record.specs.declared.fields.Line.{Line}
-use Rattle.record.specs.Fields.{Body, body, Field}
+use Rattle.record.specs.Fields.{Body, missing, body, Field}
 use Rattle.record.specs.Walk.{going, stopped, Look, here, away, fault, numbers_at, taken, step}
 use Rattle.record.specs.Reading.{cursor_at, line_for, look_for, next_of}
-use Rattle.record.proofs.Looks.{is_here, away_may}
+use Rattle.record.proofs.Looks.{Here, is_here, away_may}
 
 module _ (at size : ℕ) where
   -- what is handed on says of the look that it comes from
@@ -69,9 +70,19 @@ module _ (bytes : List ℕ) (at : ℕ) (line : Line) where
       pub room : at + 3 + line.size ≤ length bytes
       room = (is_here bytes at line.tag line.size line.must line.last there).room
 
--- so the whole of a field that must be there is
-pub field_room : (bytes : List ℕ) (at : ℕ) (line : Line) (p : ℕ) → Ok p ≡ next_of bytes at line → line.must ≡ true → at + 3 + line.size ≤ length bytes
-field_room bytes at line p is m = room bytes at line p is (must_stand bytes at line p is m)
+    -- a field is there where it must be, or where reading has gone on; and so the whole of it is
+    found_here : (line.must ≡ true) ⊎ (p ≡ at → ⊥) → look_for bytes at line ≡ here
+    found_here (inl m) = must_stand m
+    found_here (inr f) = gone_on f
+
+    pub stands : (line.must ≡ true) ⊎ (p ≡ at → ⊥) → Here bytes at line.tag line.size
+    stands found = is_here bytes at line.tag line.size line.must line.last (found_here found)
+
+    pub field_room : (line.must ≡ true) ⊎ (p ≡ at → ⊥) → at + 3 + line.size ≤ length bytes
+    field_room found = (stands found).room
+
+    pub must_room : line.must ≡ true → at + 3 + line.size ≤ length bytes
+    must_room m = field_room (inl m)
 
 module _ (bytes : List ℕ) (f : Field) (last : Bool) (at : ℕ) where
   abbrev line : Line
@@ -82,17 +93,18 @@ module _ (bytes : List ℕ) (f : Field) (last : Bool) (at : ℕ) where
   unfolding step taken
   faulted e is before = ap (taken bytes f at before) (stops bytes at line e is)
 
-  -- a field that must be there is, where reading has gone on
-  module _ (p : ℕ) (is : Ok p ≡ next_of bytes at line) (must : f.must ≡ true) where
-    there : look_for bytes at line ≡ here
-    there = must_stand bytes at line p is must
+  module _ (p : ℕ) (is : Ok p ≡ next_of bytes at line) where
+    -- the field is missing
+    pub missed : (before : List Body) → p ≡ at → step bytes f last (going at before) ≡ going p (before ++ (missing ∷ []))
+    unfolding step taken
+    missed before e = rw (missing_there bytes at line p is e, e)
 
-    module _ (before : List Body) (numbers : List ℕ) (read : numbers ≡ numbers_at bytes (at + 3) f.sizes) where
+    module _ (found : (f.must ≡ true) ⊎ (p ≡ at → ⊥)) (before : List Body) (numbers : List ℕ) (read : numbers ≡ numbers_at bytes (at + 3) f.sizes) where
       -- its numbers are sound, or are not
       pub took : f.sound before numbers ≡ true → step bytes f last (going at before) ≡ going p (before ++ (body numbers ∷ []))
       unfolding step taken
-      took s = rw (there, ← read, s, past bytes at line p is there)
+      took s = let there = found_here bytes at line p is found in rw (there, ← read, s, past bytes at line p is there)
 
       pub refused : f.sound before numbers ≡ false → step bytes f last (going at before) ≡ stopped UnsoundNumber at
       unfolding step taken
-      refused s = rw (there, ← read, s)
+      refused s = rw (found_here bytes at line p is found, ← read, s)

@@ -17,7 +17,7 @@ use Rattle.record.specs.Fields.{Body, body}
 use Rattle.record.specs.Walk.{going, stopped, step}
 use Rattle.record.specs.Dateless.{from_field, to_field, value_field, clocks_field}
 use Rattle.record.specs.Reading.{line_for, next_of, ends_walk, ends_bodies, ends_read, front_walk}
-use Rattle.record.proofs.Cursors.{field_room, faulted, took, refused}
+use Rattle.record.proofs.Cursors.{must_room, faulted, took, refused}
 
 -- the code's test of to, and the definition's
 to_refused : (from to : ℕ) → (15 < to) ⊎ ((to ≤ 15) × (from ≡ to)) → (leb to 15 && not (eqb from to)) ≡ false
@@ -35,11 +35,11 @@ module _ (bytes : List ℕ) where
   module _ (second : ℕ) (first_is : Ok second ≡ next_of bytes 0 (line_for from_field false)) (from : ℕ) (from_is : from ≡ number_at bytes 3 1) where
     pub from_fault : 15 < from → ends_walk bytes ≡ stopped UnsoundNumber 0
     unfolding ends_walk step
-    from_fault h = rw (refused bytes from_field false 0 second first_is refl [] (from ∷ []) (ap (λ (n : ℕ). n ∷ []) from_is) (lt-leb from 15 h))
+    from_fault h = rw (refused bytes from_field false 0 second first_is (inl refl) [] (from ∷ []) (ap (λ (n : ℕ). n ∷ []) from_is) (lt-leb from 15 h))
 
     module _ (small : from ≤ 15) where
       first_taken : step bytes from_field false (going 0 []) ≡ going second (body (from ∷ []) ∷ [])
-      first_taken = took bytes from_field false 0 second first_is refl [] (from ∷ []) (ap (λ (n : ℕ). n ∷ []) from_is) (le-leb from 15 small)
+      first_taken = took bytes from_field false 0 second first_is (inl refl) [] (from ∷ []) (ap (λ (n : ℕ). n ∷ []) from_is) (le-leb from 15 small)
 
       pub second_fault : (e : Fault) → Err e ≡ next_of bytes second (line_for to_field false) → ends_walk bytes ≡ stopped e.kind e.at
       unfolding ends_walk
@@ -51,14 +51,14 @@ module _ (bytes : List ℕ) where
         to_fault h =
             rw (
               first_taken,
-              refused bytes to_field false second at second_is refl (body (from ∷ []) ∷ []) (to ∷ []) (ap (λ (n : ℕ). n ∷ []) to_is) (to_refused from to h),
+              refused bytes to_field false second at second_is (inl refl) (body (from ∷ []) ∷ []) (to ∷ []) (ap (λ (n : ℕ). n ∷ []) to_is) (to_refused from to h),
             )
 
         pub ends_taken : to ≤ 15 → (from ≡ to → ⊥) → ends_walk bytes ≡ ends_read (record { from = from; to = to; at = at })
         unfolding ends_walk
         ends_taken h f =
             rw first_taken
-            (took bytes to_field false second at second_is refl (body (from ∷ []) ∷ []) (to ∷ []) (ap (λ (n : ℕ). n ∷ []) to_is) (to_taken from to h f))
+            (took bytes to_field false second at second_is (inl refl) (body (from ∷ []) ∷ []) (to ∷ []) (ap (λ (n : ℕ). n ∷ []) to_is) (to_taken from to h f))
 
 module _ (bytes : List ℕ) (e : Fault) where
   pub ends_fault : ends_walk bytes ≡ stopped e.kind e.at → front_walk bytes ≡ stopped e.kind e.at
@@ -76,7 +76,7 @@ module _ (bytes : List ℕ) (ends : Ends) (before : ends_walk bytes ≡ ends_rea
     value_fault h =
         rw (
           before,
-          refused bytes value_field false ends.at clocks third_is refl (ends_bodies ends.from ends.to) (value ∷ []) (ap (λ (n : ℕ). n ∷ []) value_is) (lt-leb value most_value h),
+          refused bytes value_field false ends.at clocks third_is (inl refl) (ends_bodies ends.from ends.to) (value ∷ []) (ap (λ (n : ℕ). n ∷ []) value_is) (lt-leb value most_value h),
         )
 
     module _ (small : value ≤ most_value) where
@@ -86,7 +86,7 @@ module _ (bytes : List ℕ) (ends : Ends) (before : ends_walk bytes ≡ ends_rea
       third_taken : step bytes value_field false (ends_walk bytes) ≡ going clocks bodies₃
       third_taken =
           rw before
-          (took bytes value_field false ends.at clocks third_is refl (ends_bodies ends.from ends.to) (value ∷ []) (ap (λ (n : ℕ). n ∷ []) value_is) (le-leb value most_value small))
+          (took bytes value_field false ends.at clocks third_is (inl refl) (ends_bodies ends.from ends.to) (value ∷ []) (ap (λ (n : ℕ). n ∷ []) value_is) (le-leb value most_value small))
 
       pub fourth_fault : (e : Fault) → Err e ≡ next_of bytes clocks (line_for clocks_field false) → front_walk bytes ≡ stopped e.kind e.at
       unfolding front_walk
@@ -99,9 +99,9 @@ module _ (bytes : List ℕ) (ends : Ends) (before : ends_walk bytes ≡ ends_rea
       front_taken at fourth_is s d e f =
           let place : clocks + 3 + 4 ≡ clocks + 7 = omega arith in
           rw third_taken
-          (took bytes clocks_field false clocks at fourth_is refl bodies₃ (s ∷ d ∷ []) (rw (e.0, f.0, place)) (rw (le-leb s last_clock e.1, le-leb d last_clock f.1)))
+          (took bytes clocks_field false clocks at fourth_is (inl refl) bodies₃ (s ∷ d ∷ []) (rw (e.0, f.0, place)) (rw (le-leb s last_clock e.1, le-leb d last_clock f.1)))
 
 -- for the functions that read them
-pub ruleset ends_stop = (first_fault, from_fault, second_fault, to_fault, field_room)
+pub ruleset ends_stop = (first_fault, from_fault, second_fault, to_fault, must_room)
 
-pub ruleset front_stops = (ends_fault, third_fault, field_room)
+pub ruleset front_stops = (ends_fault, third_fault, must_room)

@@ -21,3 +21,4 @@ pub mod Receiving
 pub mod WriteRead
 pub mod Tables
 pub mod Places
+pub mod Numbered
