@@ -78,14 +78,23 @@ station_fits_lem numbers e =
     }
 
 -- each of its slots and tokens fits
-both_fit : (numbers : List ℕ) → station_fits numbers ≡ true → (k : ℕ) → k < most_stations → cells_fit numbers k ≡ true
-both_fit numbers e k h = all_at (cells_fit numbers) most_stations k (station_fits_lem numbers e).cells h
+pub record CellsFit (numbers : List ℕ) (k : ℕ) : Type 0 where
+  pub slot : four_fits (four_at numbers (slot_place k)) ≡ true
+  pub token : four_fits (four_at numbers (token_place k)) ≡ true
+
+pub cell_fits : (numbers : List ℕ) (k : ℕ) → all_below (cells_fit numbers) most_stations ≡ true → k < most_stations → CellsFit numbers k
+cell_fits numbers k e h =
+    let at = all_at (cells_fit numbers) most_stations k e h in
+    record {
+      slot = needed (four_fits (four_at numbers (slot_place k))) (λ t. simp t at at);
+      token = needed (four_fits (four_at numbers (token_place k))) (λ t. simp (t, and-false) at at);
+    }
 
 pub slots_fit : (numbers : List ℕ) → station_fits numbers ≡ true → (k : ℕ) → k < most_stations → four_fits (four_at numbers (slot_place k)) ≡ true
-slots_fit numbers e k h = needed (four_fits (four_at numbers (slot_place k))) (λ t. simp t at (both_fit numbers e k h))
+slots_fit numbers e k h = (cell_fits numbers k (station_fits_lem numbers e).cells h).slot
 
 pub tokens_fit : (numbers : List ℕ) → station_fits numbers ≡ true → (k : ℕ) → k < most_stations → four_fits (four_at numbers (token_place k)) ≡ true
-tokens_fit numbers e k h = needed (four_fits (four_at numbers (token_place k))) (λ t. simp (t, and-false) at (both_fit numbers e k h))
+tokens_fit numbers e k h = (cell_fits numbers k (station_fits_lem numbers e).cells h).token
 
 pub record MessageFits (numbers : List ℕ) : Type 0 where
   pub source : get_or numbers 3 0 ≤ last_clock

@@ -92,7 +92,8 @@ pub fn qb_record_read(bytes: &[u8], message: &mut [u64; 13]) -> ToldNumbers
 {
     let got = record::read(bytes);
     if got.answer == DONE {
-        *message = message_numbers(got.message);
+        let later = message_numbers(got.message);
+        *message = later;
     }
     plain_told(got.answer, got.result)
 }
