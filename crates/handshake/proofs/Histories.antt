@@ -3,10 +3,10 @@
 use Rattle.std.proofs.Common.{Some, slice_get}
 use Rattle.std.proofs.lemmas.Option.{slice_get_within, gets}
 use Rattle.std.proofs.lemmas.Grind.{common_steps}
-use Prim.Native.Nat.{ℕ, ◌+◌, ◌<◌}
+use Prim.Native.Nat.{ℕ, zero, suc, ◌+◌, ◌<◌}
 use mathlib.Core.Path.{◌≡◌, sym, ◌∙◌}
 use mathlib.Core.List.{List, [], ◌∷◌, ◌++◌}
-use mathlib.Core.Logic.{◌⊎◌, inl, inr}
+use mathlib.Core.Logic.{◌⊎◌, inl, inr, ⊎_elim}
 use native.Mathlib.Omega.{arith}
 use lib.ListN.{length}
 use Rattle.handshake.specs.History.{Transfer, Entry, departure, arrival, In, Belong, Pairing, departed, arrived}
@@ -14,6 +14,13 @@ use Rattle.handshake.specs.History.{Transfer, Entry, departure, arrival, In, Bel
 module _ {A : Type 0} where
   pub at_front : (H K : List A) (i : ℕ) {x : A} → slice_get H i ≡ Some x → slice_get (H ++ K) i ≡ Some x
   at_front H K i p = grind (arith, common_steps, gets)
+
+  -- an element of two lists is one of the first, or one of the second that stands after all of the
+  -- first
+  pub at_either : (H K : List A) (i : ℕ) {x : A} → slice_get (H ++ K) i ≡ Some x → (slice_get H i ≡ Some x) ⊎ ((k : ℕ) × (i ≡ length H + k) × (slice_get K k ≡ Some x))
+  at_either [] K i p = inr (i, omega arith, p)
+  at_either (y ∷ H) K zero p = inl p
+  at_either (y ∷ H) K (suc i) p = ⊎_elim inl (λ q. inr (q.0, omega (arith, q.1), q.2)) (at_either H K i p)
 
   pub at_one : {x y : A} (i : ℕ) → slice_get (y ∷ []) i ≡ Some x → (i ≡ 0) × (x ≡ y)
   at_one i p = grind (arith, common_steps, gets)

@@ -34,16 +34,18 @@ cell_put : {T : Type 0} (seen : Option T → Option (Held ℕ)) (cells : List (P
 cell_put {T} seen cells j k h d b =
     ap (λ (y : PeerCell T). seen y.held) (at_put cells j k (record { held = h }) d b) ∙ made_of_choice (λ (y : PeerCell T). seen y.held) (eqb k j) _ _
 
--- a station with another side for j, at number i
+-- a station with another side for j
+module _ (s : Station) (j : ℕ) (x : Side) where
+  pub slot_put : (k : ℕ) → j < length s.slots → slot_seen (slot_for (put_side s j x) k) ≡ cond (eqb k j) (slot_seen x.slot) (slot_seen (slot_for s k))
+  slot_put k h = cell_put slot_seen s.slots j k x.slot no_slot h
+
+  pub token_put : (k : ℕ) → j < length s.tokens → token_seen (token_for (put_side s j x) k) ≡ cond (eqb k j) (token_seen x.token) (token_seen (token_for s k))
+  token_put k h = cell_put token_seen s.tokens j k x.token no_token h
+
+-- it stands at number i
 module _ (t : Table) (i j : ℕ) (x : Side) (here : i < length t.stations) (slots : j < length (station_at t i).slots) (tokens : j < length (station_at t i).tokens) where
   abbrev put : Station
   put = put_side (station_at t i) j x
-
-  slot_put : (k : ℕ) → slot_seen (slot_for put k) ≡ cond (eqb k j) (slot_seen x.slot) (slot_seen (slot_for (station_at t i) k))
-  slot_put k = cell_put slot_seen (station_at t i).slots j k x.slot no_slot slots
-
-  token_put : (k : ℕ) → token_seen (token_for put k) ≡ cond (eqb k j) (token_seen x.token) (token_seen (token_for (station_at t i) k))
-  token_put k = cell_put token_seen (station_at t i).tokens j k x.token no_token tokens
 
   channel_put : (g r : ℕ) (a b : Bool) → (a ≡ true → g ≡ i) → (b ≡ true → r ≡ i)
       → channel_of (cond a put (station_at t g)) (cond b put (station_at t r)) g r
@@ -53,9 +55,9 @@ module _ (t : Table) (i j : ℕ) (x : Side) (here : i < length t.stations) (slot
         token = cond (a && eqb r j) (token_seen x.token) (token_seen (token_for (station_at t g) r));
         slot = cond (b && eqb g j) (slot_seen x.slot) (slot_seen (slot_for (station_at t r) g));
       }
-  channel_put g r true true p q = rw (p refl, q refl, token_put i, slot_put i)
-  channel_put g r true false p q = rw (p refl, token_put r)
-  channel_put g r false true p q = rw (q refl, slot_put g)
+  channel_put g r true true p q = rw (p refl, q refl, token_put (station_at t i) j x i tokens, slot_put (station_at t i) j x i slots)
+  channel_put g r true false p q = rw (p refl, token_put (station_at t i) j x r tokens)
+  channel_put g r false true p q = rw (q refl, slot_put (station_at t i) j x g slots)
   channel_put g r false false p q = refl
 
   pub side_put : (g r : ℕ) → web_of (put_station t i put) g r ≡ with_end (web_of t) i j (end_of x) g r

@@ -2,14 +2,15 @@
 use Rattle.std.proofs.Common.{Option, Some, None}
 use Prim.Native.Nat.{ℕ, zero, suc}
 use mathlib.Core.Path.{◌≡◌, refl}
-use mathlib.Core.Bool.{false}
+use mathlib.Core.Bool.{Bool, true, false, cond, ◌||◌, true≢false, or-true}
 use mathlib.Core.List.{List, [], ◌++◌}
 use mathlib.Core.Logic.{◌≢◌}
 use native.Mathlib.Omega.{arith}
 use Rattle.rules.specs.declared.message.Message.{Message}
 use Rattle.rules.specs.declared.held.Token.{Token}
 use Rattle.rules.specs.declared.held.Slot.{Slot}
-use borrow.Author.Tests.{ne_eqb}
+use lib.Dec.{eqb}
+use borrow.Author.Tests.{eq-eqb, ne_eqb}
 use Rattle.handshake.specs.History.{Entry}
 use Rattle.ground.specs.Answers.{done, not_sound, value_limit}
 use Rattle.rules.specs.Report.{no_report}
@@ -55,6 +56,15 @@ draws_nothing (Draw k amount) = refl
 draws_nothing (Send from to) = refl
 draws_nothing (Deliver p) = refl
 draws_nothing (Lose p) = refl
+
+-- the first refusal that applies is plain, or a later one is
+pub plain_first : (b : Bool) (n later : ℕ) → Plain n → (b ≡ false → Plain later) → Plain (cond b n later)
+plain_first true n later p q = p
+plain_first false n later p q = q refl
+
+-- each number but 1 and 10
+pub plain : (n : ℕ) → (eqb n not_sound || eqb n value_limit) ≡ false → Plain n
+plain n e = (λ f. true≢false (rw (eq-eqb n not_sound f) at e), λ f. true≢false (rw (eq-eqb n value_limit f, or-true) at e))
 
 pub done_plain : Plain done
 done_plain = (omega arith, omega arith)

@@ -37,6 +37,14 @@ module _ (byte : ℕ) (xs : List ℕ) where
   pub found_none : None ≡ position (λ x. eqb x byte) xs → length xs ≤ index_of byte xs
   found_none e = none_by (index_of byte xs) (length xs) (ltb (index_of byte xs) (length xs)) refl (rw (first_is byte xs) at e)
 
+within_by : (t : Bool) (i n : ℕ) → i ≤ n → cond t 0 (suc i) ≤ suc n
+within_by true i n h = omega arith
+within_by false i n h = omega arith
+
+pub index_within : (byte : ℕ) (xs : List ℕ) → index_of byte xs ≤ length xs
+index_within byte [] = omega arith
+index_within byte (x ∷ xs) = within_by (eqb x byte) (index_of byte xs) (length xs) (index_within byte xs)
+
 -- the parts of a list that is cut there
 module _ (byte : ℕ) (xs : List ℕ) (i : ℕ) (e : i ≡ index_of byte xs) where
   pub front : take i xs ≡ up_to byte xs

@@ -5,11 +5,11 @@ use mathlib.Core.Path.{◌≡◌, refl}
 use mathlib.Core.Bool.{true, false, and-eq-true_iff, and-true, and-false}
 use mathlib.Core.List.{List, [], ◌∷◌}
 use mathlib.Core.Logic.{⊎_elim}
-use native.Mathlib.Nat.{pow-suc}
+use native.Mathlib.Nat.{pow-suc, pow-le-pow_right, lt_of_lt_of_le}
 use native.Mathlib.Numerals.{add-one}
 use native.Mathlib.Omega.{arith}
 use borrow.Author.Tests.{leb-true, le-leb, lt-leb, ne_eqb}
-use lib.Dec.{leb}
+use lib.Dec.{leb, lit<}
 use lib.ListN.{length, get_or, drop, drop_of_length-le}
 use lib.Seq.{drop-cons}
 use Rattle.ground.proofs.Tests.{below_or_not}
@@ -30,6 +30,10 @@ module _ (word : List ℕ) (k sofar : ℕ) where
 
   pub digits_ended : length word ≤ k → digits_of sofar (drop k word) ≡ Some sofar
   digits_ended h = rw (drop_of_length-le word h)
+
+-- fewer than 10 digits leave room for one more
+pub room : (k x : ℕ) → k < 10 → x < 10 ^ k → x < 10 ^ 9
+room k x h l = lt_of_lt_of_le l (pow-le-pow_right {n = 10} (lit< tt) {i = k} {j = 9} (omega arith))
 
 pub grown : (k x d : ℕ) → x < 10 ^ k → d < 10 → x * 10 + d < 10 ^ (k + 1)
 grown k x d h l = rw (add-one k, pow-suc) (omega arith)
