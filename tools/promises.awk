@@ -22,7 +22,8 @@
 # A function of a public trait has no requires either, and one ensures, `result ≡ g a b`, where `g`
 # is a ghost item of the trait. It has no body there. Each implementation of the trait is for one
 # plain type, and says what its ghost items are; its functions have no clauses of their own, and are
-# public functions: tools/listed.awk holds their rows against them.
+# public functions: tools/listed.awk holds their rows against them. So the head of an implementation
+# is one line that begins at the margin, and a public trait is brought in by its own name.
 #
 # A public function of a static library (`NAME staticlib:` in crates.txt) is an export. Its body is
 # one line, the call of a function of its name by the path crate::module::name, with its parameters
@@ -147,9 +148,11 @@ function reads_line(line,    why) {
 }
 
 # what in a line could hide a public function
-function unread(line) {
+function unread(line,    name) {
     if (line ~ /\/\*/) return "a comment by /* is"
     if (line ~ /^ *(pub )?mod [a-z0-9_]+ *\{/) return "a module in a module is"
+    if (line ~ /^( +|unsafe )impl[ <]/) return "an implementation here is"
+    for (name in is_trait) if (line ~ ("(^|[^A-Za-z0-9_])" name " as [A-Za-z_]")) return "a public trait by another name is"
     if (has(line, "macro_rules") || line ~ /^[A-Za-z0-9_:]+! *[({[]/) return "a macro is"
     if (has(line, "fn") && line !~ /^ *(pub |pub\(crate\) )?(extern "C" )?fn [A-Za-z0-9_]+(<[^()]*>)?\(/) return "the head of a function is"
     if (has(line, "fn") && has(substr(line, index(line, "fn ") + 3), "fn")) return "two functions on a line are"
@@ -198,6 +201,7 @@ function reads_trait(line) {
 
 # an implementation of a public trait is known by its type and the trait, as its contracts are
 function begins_impl(line,    i, name, part) {
+    if (line !~ /\{\}?$/) fault(here(), "the head of an implementation is not read: " line)
     type = named(line, "impl(<[^>]*>)? ")
     for (name in is_trait) if (line ~ ("[ :]" name "(<.*)? for ")) of = name
     if (of == "") return
