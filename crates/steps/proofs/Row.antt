@@ -11,6 +11,7 @@ use lib.ListN.{get_or, set}
 use Rattle.rules.specs.declared.message.Message.{Message}
 use Rattle.ground.specs.Limits.{most_stations}
 use Rattle.ground.proofs.Stores.{set_same, stored}
+use Rattle.rules.specs.declared.side.Side.{Side}
 use Rattle.station.specs.Side.{side_for}
 use Rattle.station.specs.Steps.{put_stock}
 use Rattle.steps.specs.declared.asked.Step.{Step}
@@ -27,7 +28,7 @@ use Rattle.steps.specs.Looking.{below, place_looked_at, seat_looked_at, flags_of
 use Rattle.steps.specs.Planning.{plan_at, changed}
 use Rattle.steps.specs.Running.{asked_step}
 use Rattle.steps.proofs.Held.{no_cells, cells_at, cells_same, side_put}
-use Rattle.steps.proofs.InPlace.{placed}
+use Rattle.steps.proofs.InPlace.{stepped, placed}
 
 module _ (t : Table) (k j : ℕ) (h : k < most_stations) (g : j < most_stations) where
   -- the slot and the token that a step looks at are one of the row
@@ -77,3 +78,17 @@ step_changes_one t sound asked =
     let plan = plan_at t.count asked (station_at t l.station).intake x w (free_for asked (flags_of t.pool)) in
     let e : changed t l.station l.peer plan.change ≡ (asked_step t asked).table = ap (λ (s : Stepped). s.table) (placed t sound asked) in
     rw (← e) (changes_one t l.station l.peer small.0 small.1 plan.change)
+
+-- and done by what that one of the row says, beside the station's stock and clocks, it is the step
+pub step_looks_at_one : (t : Table) → table_sound t ≡ true → (asked : Option Step) → let w = waiting_at t (below (place_looked_at asked) most_places) in
+    let l = seat_looked_at asked w in let s = station_at t l.station in let c = get_or (cells_of t.stations) (16 * l.station + l.peer) no_cells in
+    let x : Side = record { value = s.value; source = s.source; destination = s.destination; slot = c.slot; token = c.token } in
+    stepped t l.station l.peer (plan_at t.count asked s.intake x w (free_for asked (flags_of t.pool))) ≡ asked_step t asked
+step_looks_at_one t sound asked =
+    let w = waiting_at t (below (place_looked_at asked) most_places) in
+    let l = seat_looked_at asked w in
+    let s = station_at t l.station in
+    let small = seat_small asked w in
+    let by : Cells → Side = λ c. record { value = s.value; source = s.source; destination = s.destination; slot = c.slot; token = c.token } in
+    ap (λ (c : Cells). stepped t l.station l.peer (plan_at t.count asked s.intake (by c) w (free_for asked (flags_of t.pool)))) (looked_at_one t l.station l.peer small.0 small.1)
+    ∙ placed t sound asked
