@@ -63,20 +63,24 @@ module _ (bytes : List ℕ) (at : ℕ) (line : Line) where
         (λ e. let x : true ≡ false = sym m ∙ away_may bytes at line.tag line.size line.must line.last e in cc)
 
     module _ (there : look_for bytes at line ≡ here) where
-      pub past : p ≡ at + 3 + line.size
+      pub past_here : p ≡ at + 3 + line.size
       unfolding next_of
-      past = past_look at line.size (look_for bytes at line) p is there
+      past_here = past_look at line.size (look_for bytes at line) p is there
 
       pub room : at + 3 + line.size ≤ length bytes
       room = (is_here bytes at line.tag line.size line.must line.last there).room
 
-    -- a field is there where it must be, or where reading has gone on; and so the whole of it is
+    -- a field is there where it must be, or where reading has gone on: the whole of it, and reading
+    -- stands past it
     found_here : (line.must ≡ true) ⊎ (p ≡ at → ⊥) → look_for bytes at line ≡ here
     found_here (inl m) = must_stand m
     found_here (inr f) = gone_on f
 
     pub stands : (line.must ≡ true) ⊎ (p ≡ at → ⊥) → Here bytes at line.tag line.size
     stands found = is_here bytes at line.tag line.size line.must line.last (found_here found)
+
+    pub past : (line.must ≡ true) ⊎ (p ≡ at → ⊥) → p ≡ at + 3 + line.size
+    past found = past_here (found_here found)
 
     pub field_room : (line.must ≡ true) ⊎ (p ≡ at → ⊥) → at + 3 + line.size ≤ length bytes
     field_room found = (stands found).room
@@ -103,7 +107,7 @@ module _ (bytes : List ℕ) (f : Field) (last : Bool) (at : ℕ) where
       -- its numbers are sound, or are not
       pub took : f.sound before numbers ≡ true → step bytes f last (going at before) ≡ going p (before ++ (body numbers ∷ []))
       unfolding step taken
-      took s = let there = found_here bytes at line p is found in rw (there, ← read, s, past bytes at line p is there)
+      took s = rw (found_here bytes at line p is found, ← read, s, past bytes at line p is found)
 
       pub refused : f.sound before numbers ≡ false → step bytes f last (going at before) ≡ stopped UnsoundNumber at
       unfolding step taken

@@ -18,7 +18,7 @@ use Rattle.record.specs.Fields.{Body, number_of}
 use Rattle.record.specs.Walk.{Walk, going, stopped, Look, here, away, fault, taken, step}
 use Rattle.record.specs.Dateless.{slot_field, token_field, slot_body, token_body}
 use Rattle.record.specs.Reading.{line_for, look_for, next_of, terms_at, held_at, held_next}
-use Rattle.record.proofs.Cursors.{stops, missing_there, gone_on, past, room}
+use Rattle.record.proofs.Cursors.{stops, missing_there, gone_on, past_here, room}
 
 -- where the code has found the field, the whole of it is there
 pub held_room : (bytes : List ℕ) (at : ℕ) (line : Line) (p : ℕ) → Ok p ≡ next_of bytes at line → (p ≡ at → ⊥) → at + 3 + line.size ≤ length bytes
@@ -37,7 +37,7 @@ module _ {H : Type 0} (on : Terms → H) (bytes : List ℕ) (at : ℕ) (line : L
 
     pub held_some : (p ≡ at → ⊥) → Ok (Some (on (terms_at bytes (at + 3))), p) ≡ held_next on bytes at line
     unfolding held_next
-    held_some f = let there = gone_on bytes at line p is f in rw (past bytes at line p is there, there)
+    held_some f = let there = gone_on bytes at line p is f in rw (past_here bytes at line p is there, there)
 
 -- a field that was looked for, and whether what it says is held is sound: a step of the walk
 abbrev pub judged : {H : Type 0} → (Option H → Body) → (Option H → Bool) → ℕ → List Body → Result (Option H × ℕ) Fault → Walk
