@@ -22,8 +22,9 @@
 # A function of a public trait has no requires either, and one ensures, `result ≡ g a b`, where `g`
 # is a ghost item of the trait. It has no body there. Each implementation of the trait is for one
 # plain type, and says what its ghost items are; its functions have no clauses of their own, and are
-# public functions: tools/listed.awk holds their rows against them. So the head of an implementation
-# is one line that begins at the margin, and a public trait is brought in by its own name.
+# public functions: tools/listed.awk holds their rows against them. So a trait and an implementation
+# begin at the margin, the head of an implementation is one line with nothing else on it, and a
+# public trait is brought in by its own name.
 #
 # A public function of a static library (`NAME staticlib:` in crates.txt) is an export. Its body is
 # one line, the call of a function of its name by the path crate::module::name, with its parameters
@@ -151,13 +152,20 @@ function reads_line(line,    why) {
 function unread(line,    name) {
     if (line ~ /\/\*/) return "a comment by /* is"
     if (line ~ /^ *(pub )?mod [a-z0-9_]+ *\{/) return "a module in a module is"
-    if (line ~ /^( +|unsafe )impl[ <]/) return "an implementation here is"
-    for (name in is_trait) if (line ~ ("(^|[^A-Za-z0-9_])" name " as [A-Za-z_]")) return "a public trait by another name is"
+    if (has(line, "impl") && line !~ /^impl(<[^>]*>)? / && !of_a_kind(line)) return "an implementation here is"
+    if (line ~ /^ +pub(\(crate\))? trait /) return "a trait here is"
+    for (name in is_trait) if (line ~ ("(^|[^A-Za-z0-9_])" name " as( |$)")) return "a public trait by another name is"
     if (has(line, "macro_rules") || line ~ /^[A-Za-z0-9_:]+! *[({[]/) return "a macro is"
     if (has(line, "fn") && line !~ /^ *(pub |pub\(crate\) )?(extern "C" )?fn [A-Za-z0-9_]+(<[^()]*>)?\(/) return "the head of a function is"
     if (has(line, "fn") && has(substr(line, index(line, "fn ") + 3), "fn")) return "two functions on a line are"
     if (has(line, "pub") && line !~ /^ *pub(\(crate\))? ((extern "C" )?fn|struct|enum|trait|const|type|mod|use|[a-z][a-z0-9_]*:) /) return "what is public here is"
+    if (line ~ /(^|[^A-Za-z0-9_])(impl|trait|as)([^A-Za-z0-9_]|$)/ && line ~ /\t|[^ ]  |r#/) return "a line laid out otherwise is"
     return ""
+}
+
+# `impl Trait` as the type of a parameter, and no implementation
+function of_a_kind(line) {
+    return line ~ /[:&(,<=>] *(mut )?impl / && line !~ /(^|[^A-Za-z0-9_])impl [^{(]* for /
 }
 
 function ghostless(line) {
