@@ -1,21 +1,16 @@
 -- The row of what the stations hold for each other, and the steps of a table: a step looks at one of
 -- the row, and changes that one or none. Assumes nothing.
-use Rattle.std.proofs.Common.{Option, Some, None}
+use Rattle.std.proofs.Common.{Option}
 use Prim.Native.Nat.{ℕ, ◌+◌, ◌*◌, ◌<◌}
 use mathlib.Core.Path.{◌≡◌, refl, sym, ◌∙◌, ap}
-use mathlib.Core.Bool.{Bool, true, false, cond}
-use native.Mathlib.Omega.{arith}
-use borrow.Author.Tests.{ltb-true}
-use lib.Dec.{ltb}
+use mathlib.Core.Bool.{true}
 use lib.ListN.{get_or, set}
-use Rattle.rules.specs.declared.message.Message.{Message}
 use Rattle.ground.specs.Limits.{most_stations}
 use Rattle.ground.proofs.Stores.{set_same, stored}
 use Rattle.rules.specs.declared.side.Side.{Side}
 use Rattle.station.specs.Side.{side_for}
 use Rattle.station.specs.Steps.{put_stock}
 use Rattle.steps.specs.declared.asked.Step.{Step}
-use Rattle.steps.specs.declared.asked.Step.TheVariants.{Add, Draw, Send, Deliver, Lose}
 use Rattle.steps.specs.declared.planning.Change.{Change}
 use Rattle.steps.specs.declared.planning.Change.TheVariants.{Nothing, AtStock, AtSide, AtPlace}
 use Rattle.table.specs.declared.stepped.Stepped.{Stepped}
@@ -28,6 +23,7 @@ use Rattle.steps.specs.Looking.{below, place_looked_at, seat_looked_at, flags_of
 use Rattle.steps.specs.Planning.{plan_at, changed}
 use Rattle.steps.specs.Running.{asked_step}
 use Rattle.steps.proofs.Held.{no_cells, cells_at, cells_same, side_put}
+use Rattle.steps.proofs.Looks.{seat_there}
 use Rattle.steps.proofs.InPlace.{stepped, placed}
 
 module _ (t : Table) (k j : ℕ) (h : k < most_stations) (g : j < most_stations) where
@@ -48,23 +44,6 @@ module _ (t : Table) (k j : ℕ) (h : k < most_stations) (g : j < most_stations)
   changes_one (AtSide x) = side_put t.stations k j _ h g refl refl
   changes_one (AtPlace p w) = one_again _ refl
 
--- the station and the peer that a step looks at
-below_most : (n : ℕ) → below n most_stations < most_stations
-below_most n = by (ltb n most_stations) refl
-  where
-    by : (b : Bool) → ltb n most_stations ≡ b → cond b n 0 < most_stations
-    by true e = ltb-true n most_stations e
-    by false e = omega arith
-
-seat_small : (asked : Option Step) (w : Option Message) → let l = seat_looked_at asked w in (l.station < most_stations) × (l.peer < most_stations)
-seat_small None w = (below_most 0, below_most 0)
-seat_small (Some (Add k amount)) w = (below_most k, below_most 0)
-seat_small (Some (Draw k amount)) w = (below_most k, below_most 0)
-seat_small (Some (Send from to)) w = (below_most from, below_most to)
-seat_small (Some (Deliver p)) None = (below_most 0, below_most 0)
-seat_small (Some (Deliver p)) (Some m) = (below_most m.to, below_most m.from)
-seat_small (Some (Lose p)) w = (below_most 0, below_most 0)
-
 -- whatever is asked of a sound table, the row that it leaves is the one that was there, but for
 -- what the one station holds for the one peer that the step looks at
 pub step_changes_one : (t : Table) → table_sound t ≡ true → (asked : Option Step) → let l = seat_looked_at asked (waiting_at t (below (place_looked_at asked) most_places)) in
@@ -73,11 +52,11 @@ pub step_changes_one : (t : Table) → table_sound t ≡ true → (asked : Optio
 step_changes_one t sound asked =
     let w = waiting_at t (below (place_looked_at asked) most_places) in
     let l = seat_looked_at asked w in
-    let small = seat_small asked w in
+    let there = seat_there asked w refl in
     let x = side_for (station_at t l.station) l.peer in
     let plan = plan_at t.count asked (station_at t l.station).intake x w (free_for asked (flags_of t.pool)) in
     let e : changed t l.station l.peer plan.change ≡ (asked_step t asked).table = ap (λ (s : Stepped). s.table) (placed t sound asked) in
-    rw (← e) (changes_one t l.station l.peer small.0 small.1 plan.change)
+    rw (← e) (changes_one t l.station l.peer there.station there.peer plan.change)
 
 -- and done by what that one of the row says, beside the station's stock and clocks, it is the step
 pub step_looks_at_one : (t : Table) → table_sound t ≡ true → (asked : Option Step) → let w = waiting_at t (below (place_looked_at asked) most_places) in
@@ -88,7 +67,7 @@ step_looks_at_one t sound asked =
     let w = waiting_at t (below (place_looked_at asked) most_places) in
     let l = seat_looked_at asked w in
     let s = station_at t l.station in
-    let small = seat_small asked w in
+    let there = seat_there asked w refl in
     let by : Cells → Side = λ c. record { value = s.value; source = s.source; destination = s.destination; slot = c.slot; token = c.token } in
-    ap (λ (c : Cells). stepped t l.station l.peer (plan_at t.count asked s.intake (by c) w (free_for asked (flags_of t.pool)))) (looked_at_one t l.station l.peer small.0 small.1)
+    ap (λ (c : Cells). stepped t l.station l.peer (plan_at t.count asked s.intake (by c) w (free_for asked (flags_of t.pool)))) (looked_at_one t l.station l.peer there.station there.peer)
     ∙ placed t sound asked
