@@ -17,7 +17,7 @@ same_is [] (y ∷ ys) = refl
 same_is (x ∷ xs) [] = refl
 same_is (x ∷ xs) (y ∷ ys) = ap (λ (t : Bool). eqb x y && t) (same_is xs ys)
 
--- and that is that they are the same
+-- which holds just of the same list
 pub same_true : (a b : List ℕ) → same_bytes a b ≡ true → a ≡ b
 same_true [] [] e = refl
 same_true [] (y ∷ ys) e = cc
